@@ -1,0 +1,12 @@
+pub mod Numbers
+pub mod Pattern
+pub mod Count
+pub mod Steps
+pub mod Listing
+pub mod Rank
+pub mod Ends
+pub mod Orders
+pub mod Joins
+pub mod Neighbours
+pub mod Around
+pub mod Limits

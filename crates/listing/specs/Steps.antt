@@ -1,0 +1,49 @@
+-- The two ways to make a pattern from a shorter one, and the ways back (Definition 1 and Remark 2 of document 000).
+-- Assumes nothing.
+use Prim.Native.Nat.{ℕ, zero, suc}
+use mathlib.Core.Bool.{Bool, true, false, cond}
+use mathlib.Core.List.{List}
+use lib.Dec.{eqb}
+use Rattle.listing.specs.Numbers.{before, is, trade, raise, lower}
+use Rattle.listing.specs.Pattern.{entry, tabulate}
+
+-- A(i), from a pattern t of n - 1 ports: n where t holds i, and i at jack n (the function φ of Definition 1)
+unfoldable pub stepA : ℕ → ℕ → List ℕ → List ℕ
+stepA n i t = tabulate n (λ j. is j n i (trade i n (entry t j)))
+
+-- B(i), from a pattern t of n - 2 ports: one more to entries of i or more, n inserted as the entry at jack i, so that later entries
+-- stand one jack on, and i at jack n (the function ψ of Definition 1)
+unfoldable pub stepB : ℕ → ℕ → List ℕ → List ℕ
+stepB n i t = tabulate n (λ j. is j n i (is j i n (raise i (entry t (lower i j)))))
+
+-- back from A: i, the entry at jack n, where p holds n (Remark 2 (1))
+unfoldable pub unA : ℕ → List ℕ → List ℕ
+unA n p = tabulate (before n) (λ j. trade n (entry p n) (entry p j))
+
+-- back from B: with i the entry at jack n, jack i taken out and one less above i (Remark 2 (2))
+unfoldable pub unB : ℕ → List ℕ → List ℕ
+unB n p = tabulate (before (before n)) (λ j. lower (entry p n) (entry p (raise (entry p n) j)))
+
+-- A pattern of n ports comes from a shorter one by A or by B
+pub data Way : Type 0 where
+  byA : Way
+  byB : Way
+
+-- the ports of the shorter pattern
+abbrev pub shorter : Way → ℕ → ℕ
+shorter byA n = before n
+shorter byB n = before (before n)
+
+-- the step itself
+abbrev pub step : Way → ℕ → ℕ → List ℕ → List ℕ
+step byA n i t = stepA n i t
+step byB n i t = stepB n i t
+
+-- the step back
+abbrev pub back : Way → ℕ → List ℕ → List ℕ
+back byA n p = unA n p
+back byB n p = unB n p
+
+-- the way that p came: with i the entry at jack n, by B if jack i holds n, else by A (the paper, 'The list')
+unfoldable pub way : ℕ → List ℕ → Way
+way n p = cond (eqb (entry p (entry p n)) n) byB byA
