@@ -1,3 +1,9 @@
 pub mod Numbers
 pub mod Panels
 pub mod Sources
+pub mod Counts
+pub mod StepA
+pub mod StepB
+pub mod Shorter
+pub mod Places
+pub mod Ranks
