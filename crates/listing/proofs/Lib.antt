@@ -2,8 +2,11 @@ pub mod Numbers
 pub mod Panels
 pub mod Sources
 pub mod Counts
+pub mod StepEntries
 pub mod StepA
 pub mod StepB
 pub mod Shorter
 pub mod Places
 pub mod Ranks
+pub mod Unranks
+pub mod Ends

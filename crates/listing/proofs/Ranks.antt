@@ -18,9 +18,9 @@ use Rattle.listing.specs.Listing.{listing, at}
 use Rattle.listing.specs.Rank.{fromEnd, perBlock, inOdd, turned, place, rank}
 use Rattle.listing.proofs.Numbers.{either, below?}
 use Rattle.listing.proofs.Counts.{count-blocks}
-use Rattle.listing.proofs.StepA.{A-end, A-free, unA-stepA}
-use Rattle.listing.proofs.StepB.{B-end, B-hole, unB-stepB}
-use Rattle.listing.proofs.Shorter.{shorter-first, step-derangement, Made, made}
+use Rattle.listing.proofs.StepEntries.{B-at}
+use Rattle.listing.proofs.StepA.{A-free}
+use Rattle.listing.proofs.Shorter.{shorter-first, step-derangement, step-end, back-step, made}
 use Rattle.listing.proofs.Places.{getD-reverse, turned-twice, turned-below, inOdd-below, length-listing, at-place}
 
 -- ---- a rank, taken apart
@@ -84,10 +84,10 @@ pub rank-step : (w : Way) (m i : ℕ) (t : List ℕ) → Among (suc m) i → Der
 unfolding rank
 rank-step byA m i t fits D =
     let free = ne-eqb (entry (step byA (suc (suc m)) i t) i) (suc (suc m)) (A-free (suc m) i t fits D) in
-    rw (A-end (suc m) i t fits D, free, unA-stepA (suc m) i t fits D)
+    rw (step-end byA m i t fits D, free, back-step byA m i t fits D)
 rank-step byB m i t fits D =
-    let held = eq-eqb (entry (step byB (suc (suc m)) i t) i) (suc (suc m)) (B-hole m i t fits) in
-    rw (B-end m i t fits, held, unB-stepB m i t fits D)
+    let held = eq-eqb (entry (step byB (suc (suc m)) i t) i) (suc (suc m)) (B-at (suc (suc m)) i t (omega arith) (omega arith)) in
+    rw (step-end byB m i t fits D, held, back-step byB m i t fits D)
 
 -- ---- the members of the list are patterns
 

@@ -13,8 +13,9 @@ use Rattle.listing.specs.Numbers.{Among}
 use Rattle.listing.specs.Pattern.{entry, Derangement}
 use Rattle.listing.specs.Steps.{Way, byA, byB, shorter, step, back, way}
 use Rattle.listing.proofs.Numbers.{either, same?}
-use Rattle.listing.proofs.StepA.{A-derangement, A-end, A-free, unA-stepA, unA-derangement, stepA-unA}
-use Rattle.listing.proofs.StepB.{B-derangement, B-end, B-hole, unB-stepB, unB-derangement, stepB-unB}
+use Rattle.listing.proofs.StepEntries.{A-last, B-at, B-last}
+use Rattle.listing.proofs.StepA.{A-derangement, A-free, unA-stepA, unA-derangement, stepA-unA}
+use Rattle.listing.proofs.StepB.{B-derangement, unB-stepB, unB-derangement, stepB-unB}
 
 -- ---- induction on the shorter patterns
 
@@ -36,8 +37,8 @@ step-derangement byB m i t fits D = B-derangement m i t fits D
 -- i stands at its last jack
 pub step-end : (w : Way) (m i : ℕ) (t : List ℕ) → Among (suc m) i → Derangement (shorter w (suc (suc m))) t
     → entry (step w (suc (suc m)) i t) (suc (suc m)) ≡ i
-step-end byA m i t fits D = A-end (suc m) i t fits D
-step-end byB m i t fits D = B-end m i t fits
+step-end byA m i t fits D = A-last (suc (suc m)) i t (omega arith)
+step-end byB m i t fits D = B-last (suc (suc m)) i t (omega arith)
 
 -- the step back leads back
 pub back-step : (w : Way) (m i : ℕ) (t : List ℕ) → Among (suc m) i → Derangement (shorter w (suc (suc m))) t
@@ -58,8 +59,8 @@ way-A m p i last free = rw (last, ne-eqb (entry p i) (suc (suc m)) free)
 -- a pattern shows the way that it was made
 pub way-step : (w : Way) (m i : ℕ) (t : List ℕ) → Among (suc m) i → Derangement (shorter w (suc (suc m))) t
     → way (suc (suc m)) (step w (suc (suc m)) i t) ≡ w
-way-step byA m i t fits D = way-A m (step byA (suc (suc m)) i t) i (A-end (suc m) i t fits D) (A-free (suc m) i t fits D)
-way-step byB m i t fits D = way-B m (step byB (suc (suc m)) i t) i (B-end m i t fits) (B-hole m i t fits)
+way-step byA m i t fits D = way-A m (step byA (suc (suc m)) i t) i (step-end byA m i t fits D) (A-free (suc m) i t fits D)
+way-step byB m i t fits D = way-B m (step byB (suc (suc m)) i t) i (step-end byB m i t fits D) (B-at (suc (suc m)) i t (omega arith) (omega arith))
 
 -- ---- every pattern has been made
 

@@ -12,6 +12,7 @@ use Rattle.listing.specs.Pattern.{entry, Permutation, Derangement}
 use Rattle.listing.specs.Steps.{stepA, unA}
 use Rattle.listing.proofs.Numbers.{either, is-cases, trade-cases}
 use Rattle.listing.proofs.Panels.{is-tabulated, length-tabulate, entry-tabulate}
+use Rattle.listing.proofs.StepEntries.{length-A, A-last}
 
 -- ---- A(i) at each jack
 
@@ -52,10 +53,9 @@ module _ (m i : ℕ) (t : List ℕ) (fits : Among m i) (P : Permutation m t) whe
   once j k v w (kept a b c) (kept a′ b′ c′) e = P .apart j k a a′ (sym c ∙ e ∙ c′)
 
   pub A-permutation : Permutation (suc m) (stepA (suc m) i t)
-  unfolding stepA
   A-permutation =
       record {
-        long = length-tabulate (suc m) (λ k. is k (suc m) i (trade i (suc m) (entry t k)));
+        long = length-A (suc m) i t;
         ports = λ j h. port j _ (at-A m i t j h);
         apart = λ j k hj hk e. once j k _ _ (at-A m i t j hj) (at-A m i t k hk) e;
       }
@@ -68,15 +68,6 @@ module _ (m i : ℕ) (t : List ℕ) (fits : Among m i) (D : Derangement m t) whe
 
   pub A-derangement : Derangement (suc m) (stepA (suc m) i t)
   A-derangement = record { permutation = A-permutation m i t fits (D .permutation); moved = λ j h. away j _ (at-A m i t j h) }
-
-  -- the new jack holds i
-  end : (v : ℕ) → AtA m i t (suc m) v → v ≡ i
-  end v (new a b) = b
-  end v (held a b c) = absurd (omega arith)
-  end v (kept a b c) = absurd (omega arith)
-
-  pub A-end : entry (stepA (suc m) i t) (suc m) ≡ i
-  A-end = end _ (at-A m i t (suc m) (omega arith))
 
   -- jack i does not hold m + 1: a pattern by A is not one by B
   free : (v : ℕ) → AtA m i t i v → v ≢ suc m
@@ -92,7 +83,7 @@ module _ (m i : ℕ) (t : List ℕ) (fits : Among m i) (D : Derangement m t) whe
   unfolding unA
   unA-stepA =
       is-tabulated m (λ j. trade (suc m) (entry (stepA (suc m) i t) (suc m)) (entry (stepA (suc m) i t) j)) t (D .permutation .long)
-      (λ j h. rw A-end (undone j _ h (at-A m i t j (omega arith))))
+      (λ j h. rw (A-last (suc m) i t (omega arith)) (undone j _ h (at-A m i t j (omega arith))))
     where
       undone : (j v : ℕ) → Among m j → AtA m i t j v → trade (suc m) i v ≡ entry t j
       undone j v h (new a b) = absurd (omega arith)

@@ -12,6 +12,7 @@ use Rattle.listing.specs.Pattern.{entry, Permutation, Derangement}
 use Rattle.listing.specs.Steps.{stepB, unB}
 use Rattle.listing.proofs.Numbers.{either, is-cases, raise-cases, lower-cases, raise-near, raise-lower, lower-raise, raise-inj}
 use Rattle.listing.proofs.Panels.{is-tabulated, length-tabulate, entry-tabulate}
+use Rattle.listing.proofs.StepEntries.{length-B, B-last, B-raised}
 
 -- ---- room for i among 1..m, and back
 
@@ -45,31 +46,6 @@ module _ (m i : ℕ) (t : List ℕ) (fits : Among (suc m) i) where
       (λ b. hole (b .0) (a .1 ∙ b .1))
       (λ b. kept (lower i j) (lower-among m i j fits (omega arith) (b .0)) (sym (raise-lower i j (b .0))) (a .1 ∙ b .1))))
 
-  -- the three kinds of jack
-  end : (v : ℕ) → AtB m i t (suc (suc m)) v → v ≡ i
-  end v (new a b) = b
-  end v (hole a b) = absurd (omega arith)
-  end v (kept k a b c) = absurd (omega (arith, raise-near i k))
-
-  pub B-end : entry (stepB (suc (suc m)) i t) (suc (suc m)) ≡ i
-  B-end = end _ (at-B (suc (suc m)) (omega arith))
-
-  full : (v : ℕ) → AtB m i t i v → v ≡ suc (suc m)
-  full v (new a b) = absurd (omega arith)
-  full v (hole a b) = b
-  full v (kept k a b c) = absurd (omega (arith, raise-near i k))
-
-  pub B-hole : entry (stepB (suc (suc m)) i t) i ≡ suc (suc m)
-  B-hole = full _ (at-B i (omega arith))
-
-  lifted : (j v : ℕ) → Among m j → AtB m i t (raise i j) v → v ≡ raise i (entry t j)
-  lifted j v h (new a b) = absurd (omega (arith, raise-near i j))
-  lifted j v h (hole a b) = absurd (omega (arith, raise-near i j))
-  lifted j v h (kept k a b c) = c ∙ ap (λ (x : ℕ). raise i (entry t x)) (sym (raise-inj i j k b))
-
-  pub B-raised : (j : ℕ) → Among m j → entry (stepB (suc (suc m)) i t) (raise i j) ≡ raise i (entry t j)
-  B-raised j h = lifted j _ h (at-B (raise i j) (omega (arith, raise-among m i j h)))
-
 -- ---- B(i) of a permutation is one, and B(i) of a pattern is a pattern
 
 module _ (m i : ℕ) (t : List ℕ) (fits : Among (suc m) i) (P : Permutation m t) where
@@ -95,10 +71,9 @@ module _ (m i : ℕ) (t : List ℕ) (fits : Among (suc m) i) (P : Permutation m 
       b ∙ ap (raise i) (P .apart x y a a′ (raise-inj i (entry t x) (entry t y) (sym c ∙ e ∙ c′))) ∙ sym b′
 
   pub B-permutation : Permutation (suc (suc m)) (stepB (suc (suc m)) i t)
-  unfolding stepB
   B-permutation =
       record {
-        long = length-tabulate (suc (suc m)) _;
+        long = length-B (suc (suc m)) i t;
         ports = λ j h. port j _ (at-B m i t fits j h);
         apart = λ j k hj hk e. once j k _ _ (at-B m i t fits j hj) (at-B m i t fits k hk) e;
       }
@@ -118,7 +93,9 @@ module _ (m i : ℕ) (t : List ℕ) (fits : Among (suc m) i) (D : Derangement m 
   unB-stepB =
       let p = stepB (suc (suc m)) i t in
       is-tabulated m (λ j. lower (entry p (suc (suc m))) (entry p (raise (entry p (suc (suc m))) j))) t (D .permutation .long)
-      (λ j h. rw (B-end m i t fits, B-raised m i t fits j h) (lower-raise i (entry t j)))
+      (λ j h.
+      let a : Among (suc m) (raise i j) = raise-among m i j h in
+      rw (B-last (suc (suc m)) i t (omega arith), B-raised (suc (suc m)) i t j (omega arith) (omega arith)) (lower-raise i (entry t j)))
 
 -- ---- the step back, of a pattern p of m + 2 ports with i the entry at jack m + 2 where jack i holds m + 2
 
