@@ -10,3 +10,5 @@ pub mod Places
 pub mod Ranks
 pub mod Unranks
 pub mod Ends
+pub mod Around
+pub mod Limits
