@@ -88,7 +88,7 @@ module _ (xs ys : List (List ℕ)) where
 module _ (n : ℕ) (one two : List (List ℕ)) where
   pub length-block : (i : ℕ) → length (block n one two i) ≡ length one + length two
   unfolding block
-  length-block i = length-joined (map (stepA n i) one) (map (stepB n i) two) (odd i) ∙ simp length-map
+  length-block i = length-joined (map (stepA n i) one) (map (stepB n i) two) _ ∙ simp length-map
 
   pub length-blocks : (k : ℕ) → length (blocks n one two k) ≡ k * (length one + length two)
   unfolding blocks
