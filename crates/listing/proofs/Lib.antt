@@ -9,6 +9,14 @@ pub mod Shorter
 pub mod Places
 pub mod Ranks
 pub mod Unranks
+pub mod Renamed
+pub mod Moves
+pub mod Lifting
+pub mod Rows
+pub mod Homes
+pub mod Hops
+pub mod Joins
 pub mod Ends
+pub mod Neighbours
 pub mod Around
 pub mod Limits
