@@ -1,3 +1,4 @@
 pub mod Numbers
 pub mod Panels
 pub mod Sources
+pub mod StepEntries
