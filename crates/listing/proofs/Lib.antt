@@ -2,3 +2,4 @@ pub mod Numbers
 pub mod Panels
 pub mod Sources
 pub mod StepEntries
+pub mod Renamed

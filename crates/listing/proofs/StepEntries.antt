@@ -25,15 +25,20 @@ at-A : (n i : ℕ) (t : List ℕ) (j : ℕ) → Among n j → entry (stepA n i t
 unfolding stepA valueA
 at-A n i t j h = entry-tabulate n (valueA n i t) j h
 
+-- what the shorter pattern has at jack j stands there, n for i
+pub A-other : (n i : ℕ) (t : List ℕ) (j : ℕ) → Among n j → j ≢ n → entry (stepA n i t) j ≡ trade i n (entry t j)
+unfolding valueA
+A-other n i t j h nn = at-A n i t j h ∙ is-other j n i _ nn
+
 -- a port other than i keeps its jack
 pub A-kept : (n i : ℕ) (t : List ℕ) (j : ℕ) → Among n j → j ≢ n → entry t j ≢ i → entry (stepA n i t) j ≡ entry t j
-unfolding valueA trade
-A-kept n i t j h nn ni = at-A n i t j h ∙ is-other j n i _ nn ∙ is-other (entry t j) i n _ ni
+unfolding trade
+A-kept n i t j h nn ni = A-other n i t j h nn ∙ is-other (entry t j) i n _ ni
 
 -- n stands where port i was
 pub A-held : (n i : ℕ) (t : List ℕ) (j : ℕ) → Among n j → j ≢ n → entry t j ≡ i → entry (stepA n i t) j ≡ n
-unfolding valueA trade
-A-held n i t j h nn e = at-A n i t j h ∙ is-other j n i _ nn ∙ is-same (entry t j) i n _ e
+unfolding trade
+A-held n i t j h nn e = A-other n i t j h nn ∙ is-same (entry t j) i n _ e
 
 -- i stands at jack n
 pub A-last : (n i : ℕ) (t : List ℕ) → 1 ≤ n → entry (stepA n i t) n ≡ i

@@ -32,6 +32,11 @@ abbrev pub InShape : ℕ → Order → Type 0
 InShape n (swap a b) = (1 ≤ a) × (a < b) × (b ≤ n)
 InShape n (turn a b c) = (1 ≤ a) × (a < b) × (b ≤ n) × (a < c) × (c ≤ n) × (b ≢ c)
 
+-- several orders in shape
+abbrev pub AllInShape : ℕ → List Order → Type 0
+AllInShape n [] = Unit {0}
+AllInShape n (o ∷ os) = InShape n o × AllInShape n os
+
 -- a move from a pattern to its neighbour: nothing, one order, or two swaps a,b and c,d
 pub data Move : Type 0 where
   nothing : Move
