@@ -3,3 +3,5 @@ pub mod Panels
 pub mod Sources
 pub mod StepEntries
 pub mod Renamed
+pub mod Moves
+pub mod Lifting

@@ -164,23 +164,18 @@ entry-plain m os e u h =
     let long : length (tabulate m (λ j. j)) ≡ m = length-tabulate m (λ j. j) in
     entry-carryAll os (tabulate m (λ j. j)) u (rw long e) (rw long h) ∙ entry-tabulate m (λ j. j) (sources os u) (sources-each (Among m) os u e h)
 
--- w has different jacks of 1..n, and the orders name only 1, 2, .., up to their number
-abbrev pub Fits : ℕ → List ℕ → List Order → List Order → Type 0
-Fits n w os rs = Different n w × EachOf (Among (length w)) os × EachOf (Among (length w)) rs
-
 -- orders that do the same to the panel (1, 2, .., m) do the same to every panel, on any m different jacks in the place of 1, 2, .., m
-pub same-orders : (n : ℕ) (w : List ℕ) (os rs : List Order) → Fits n w os rs → carryAll os (plain (length w)) ≡ carryAll rs (plain (length w))
-    → (p : List ℕ) → length p ≡ n → carryAll (on w os) p ≡ carryAll (on w rs) p
-same-orders n w os rs fits same p long =
+pub same-orders : (n : ℕ) (w : List ℕ) → Different n w → (os rs : List Order) → EachOf (Among (length w)) os → EachOf (Among (length w)) rs
+    → carryAll os (plain (length w)) ≡ carryAll rs (plain (length w)) → (p : List ℕ) → length p ≡ n → carryAll (on w os) p ≡ carryAll (on w rs) p
+same-orders n w different os rs eo er same p long =
     same-entries (carryAll (on w os) p) (carryAll (on w rs) p) (length-carryAll (on w os) p ∙ sym (length-carryAll (on w rs) p)) (λ j h.
     let here : Among (length p) j = rw (length-carryAll (on w os) p) at h in
-    entry-carryAll (on w os) p j (each os (fits .1)) here
-    ∙ ap (entry p) (same-sources n w (fits .0) os rs (fits .1) (fits .2) agree j)
-    ∙ sym (entry-carryAll (on w rs) p j (each rs (fits .2)) here))
+    entry-carryAll (on w os) p j (each os eo) here
+    ∙ ap (entry p) (same-sources n w different os rs eo er agree j)
+    ∙ sym (entry-carryAll (on w rs) p j (each rs er) here))
   where
     each : (qs : List Order) → EachOf (Among (length w)) qs → EachOf (Among (length p)) (on w qs)
-    each qs e = rw long (each-of-then (Among (length w)) (Among n) (entry w) (entry-among n w (fits .0)) qs e)
+    each qs e = rw long (each-of-then (Among (length w)) (Among n) (entry w) (entry-among n w different) qs e)
 
     agree : (u : ℕ) → Among (length w) u → sources os u ≡ sources rs u
-    agree u h =
-        sym (entry-plain (length w) os (fits .1) u h) ∙ ap (λ (q : List ℕ). entry q u) same ∙ entry-plain (length w) rs (fits .2) u h
+    agree u h = sym (entry-plain (length w) os eo u h) ∙ ap (λ (q : List ℕ). entry q u) same ∙ entry-plain (length w) rs er u h
