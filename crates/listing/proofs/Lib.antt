@@ -5,3 +5,5 @@ pub mod StepEntries
 pub mod Renamed
 pub mod Moves
 pub mod Lifting
+pub mod Rows
+pub mod Hops
