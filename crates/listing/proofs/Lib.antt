@@ -6,4 +6,5 @@ pub mod Renamed
 pub mod Moves
 pub mod Lifting
 pub mod Rows
+pub mod Homes
 pub mod Hops

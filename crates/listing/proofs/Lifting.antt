@@ -74,7 +74,7 @@ raised-free : (i : ℕ) (o : Order) → Each (λ a. i ≢ a) (raisedOrder i o)
 raised-free i (swap a b) = omega (arith, raise-near i a, raise-near i b)
 raised-free i (turn a b c) = omega (arith, raise-near i a, raise-near i b, raise-near i c)
 
-lower-among : (m i j : ℕ) → Among (suc m) i → Among (suc m) j → j ≢ i → Among m (lower i j)
+pub lower-among : (m i j : ℕ) → Among (suc m) i → Among (suc m) j → j ≢ i → Among m (lower i j)
 lower-among m i j hi hj ne = either (lower-cases i j) (λ c. omega arith) (λ c. omega arith)
 
 -- at the jack that jack u of the shorter pattern becomes
