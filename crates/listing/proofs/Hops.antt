@@ -12,7 +12,7 @@ use Rattle.listing.specs.Numbers.{Among, is, odd}
 use Rattle.listing.specs.Pattern.{entry, tabulate}
 use Rattle.listing.specs.Steps.{stepA, stepB}
 use Rattle.listing.specs.Ends.{home, last}
-use Rattle.listing.specs.Orders.{Order, swap, turn, source, carry, carryAll, Leads}
+use Rattle.listing.specs.Orders.{Order, swap, turn, source, carry, carryAll, one, Leads}
 use Rattle.listing.specs.Joins.{hopA, hopB, closing}
 use Rattle.listing.proofs.Numbers.{either, same?, is-same, is-other}
 use Rattle.listing.proofs.Panels.{length-tabulate, entry-tabulate, carries-to}
@@ -159,15 +159,21 @@ module _ (c : ℕ) (pos : 1 ≤ c) where
       (λ e. rw e (last-second ∙ rw b (sym (home-low n (suc c) (omega arith) (omega arith)))))
       (λ z. last-low j (omega arith) (omega arith) ∙ sym (home-low n j (omega arith) (omega arith)))))
 
-  closes : (b : Bool) → odd n ≡ b → Leads n (closing n) (last n) (home n)
-  unfolding carryAll
-  closes true b =
+  pub closing-turn : odd n ≡ true → closing n ≡ one (turn c n (suc c))
+  closing-turn b =
       let one-less : n - 1 ≡ suc c = omega arith in
       let two-less : n - 2 ≡ c = omega arith in
-      rw (closing-odd n (omega arith) b, two-less, one-less) record { long = length-last n; form = omega arith; makes = closes-odd b }
-  closes false b =
+      closing-odd n (omega arith) b ∙ rw (two-less, one-less)
+
+  pub closing-swap : odd n ≡ false → closing n ≡ one (swap c n)
+  closing-swap b =
       let two-less : n - 2 ≡ c = omega arith in
-      rw (closing-even n (omega arith) b, two-less) record { long = length-last n; form = omega arith; makes = closes-even b }
+      closing-even n (omega arith) b ∙ rw two-less
+
+  closes : (b : Bool) → odd n ≡ b → Leads n (closing n) (last n) (home n)
+  unfolding carryAll
+  closes true b = rw (closing-turn b) record { long = length-last n; form = omega arith; makes = closes-odd b }
+  closes false b = rw (closing-swap b) record { long = length-last n; form = omega arith; makes = closes-even b }
 
 -- one move closes the circuit
 pub closing-leads : (m : ℕ) → Leads (suc (suc m)) (closing (suc (suc m))) (last (suc (suc m))) (home (suc (suc m)))

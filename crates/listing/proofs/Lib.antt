@@ -8,3 +8,4 @@ pub mod Lifting
 pub mod Rows
 pub mod Homes
 pub mod Hops
+pub mod Joins
