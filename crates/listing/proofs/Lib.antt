@@ -9,3 +9,4 @@ pub mod Rows
 pub mod Homes
 pub mod Hops
 pub mod Joins
+pub mod OneMove
