@@ -33,6 +33,7 @@ pub home-top : (n j : ℕ) → 1 ≤ j → j ≡ n → entry (home n) j ≡ 1
 unfolding home
 home-top n j low e = entry-tabulate n (λ k. is k n 1 (suc k)) j (omega arith) ∙ is-same j n 1 (suc j) e
 
+-- jack j of home holds j + 1, or j is the last and holds 1
 home-cases : (n j : ℕ) → Among n j → ((j < n) × (entry (home n) j ≡ suc j)) ⊎ ((j ≡ n) × (entry (home n) j ≡ 1))
 home-cases n j h =
     either (same? j n)
@@ -45,6 +46,7 @@ pub record Holds (n : ℕ) (t : List ℕ) (x i : ℕ) : Type 0 where
   pub here : entry t x ≡ i
   pub only : (j : ℕ) → Among n j → entry t j ≡ i → j ≡ x
 
+-- port x + 1 is on jack x
 pub home-holds : (n x : ℕ) → 1 ≤ x → x < n → Holds n (home n) x (suc x)
 home-holds n x low h =
     record {
@@ -53,6 +55,7 @@ home-holds n x low h =
       only = λ j hj e. either (home-cases n j hj) (λ c. omega arith) (λ c. omega arith);
     }
 
+-- port 1 is on the last jack
 pub home-holds-one : (n : ℕ) → 1 ≤ n → Holds n (home n) n 1
 home-holds-one n h =
     record {
@@ -111,6 +114,7 @@ home-raised m i u hi hu =
     (λ t. omega (arith, raise-high i 1 (omega arith), home-low (suc m) i (omega arith) (omega arith)))
     (λ t. omega (arith, raise-low i 1 (omega arith)))))))
 
+-- so B(i) of home has, at each jack but i and n, the port that home has there, the port after i in the place of i
 B-home : (m i j : ℕ) → Among (suc m) i → Among (suc m) j → j ≢ i
     → entry (stepB (suc (suc m)) i (home m)) j ≡ trade i (entry (home (suc m)) i) (entry (home (suc m)) j)
 B-home m i j hi hj ne =

@@ -109,11 +109,12 @@ pub length-last : (n : ℕ) → length (last n) ≡ n
 unfolding last
 length-last n = length-tabulate n _
 
+-- for 2 ports the last pattern is the first
 last-two : carryAll [] (last 2) ≡ home 2
 unfolding carryAll last home tabulate is odd
 last-two = refl
 
--- the last pattern, n = c + 2: (2, .., c, n, 1, c + 1) for odd n, (2, .., c, 1, n, c + 1) for even n
+-- the entries of the last pattern, n = c + 2: (2, .., c, n, 1, c + 1) for odd n, (2, .., c, 1, n, c + 1) for even n
 module _ (c : ℕ) (pos : 1 ≤ c) where
   abbrev n : ℕ
   n = suc (suc c)
@@ -138,6 +139,7 @@ module _ (c : ℕ) (pos : 1 ≤ c) where
   last-top : entry (last n) n ≡ suc c
   last-top = entry-last n (omega arith) ∙ is-same n n _ _ refl
 
+  -- one turn closes the circuit for odd n, one swap for even n
   closes-odd : odd n ≡ true → carry (turn c n (suc c)) (last n) ≡ home n
   closes-odd b =
       let len : length (last n) ≡ n = length-last n in
@@ -159,6 +161,7 @@ module _ (c : ℕ) (pos : 1 ≤ c) where
       (λ e. rw e (last-second ∙ rw b (sym (home-low n (suc c) (omega arith) (omega arith)))))
       (λ z. last-low j (omega arith) (omega arith) ∙ sym (home-low n j (omega arith) (omega arith)))))
 
+  -- the closing move in c
   pub closing-turn : odd n ≡ true → closing n ≡ one (turn c n (suc c))
   closing-turn b =
       let one-less : n - 1 ≡ suc c = omega arith in

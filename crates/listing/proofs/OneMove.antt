@@ -13,9 +13,9 @@ use borrow.Author.Tests.{eq-eqb, ne-eqb, lt-ltb, le-ltb}
 use Rattle.listing.specs.Numbers.{Among}
 use Rattle.listing.specs.Pattern.{entry, Permutation}
 use Rattle.listing.specs.Orders.{Order, swap, turn, source, carryAll, AllInShape, Move, nothing, one, two, orders, InForm, Leads}
-use Rattle.listing.proofs.Numbers.{either, below?, same?, is-same, is-other}
-use Rattle.listing.proofs.Sources.{source-past}
-use Rattle.listing.proofs.Renamed.{EachOf, source-unnamed, sources, sources-each, entry-carryAll}
+use Rattle.listing.proofs.Numbers.{either, below?, same?}
+use Rattle.listing.proofs.Sources.{source-unnamed, swap-first, swap-second, turn-first, turn-second, source-past}
+use Rattle.listing.proofs.Renamed.{EachOf, sources, sources-each, entry-carryAll}
 use Rattle.listing.proofs.Moves.{orders-shaped, shapes-each}
 
 -- ---- the first jack that changes
@@ -30,12 +30,14 @@ record First (n : ℕ) (E : ℕ → Type 0) (s : ℕ → ℕ) (a : ℕ) : Type 0
   changes : a ≤ n → (s a ≢ a) × E a
   before : (j : ℕ) → 1 ≤ j → j < a → E j → s j ≡ j
 
+-- it cannot come earlier by the one than by the other
 not-before : (n : ℕ) (E : ℕ → Type 0) (s t : ℕ → ℕ) (a b : ℕ) → Agree n s t → First n E s a → First n E t b → a < b → ⊥
 not-before n E s t a b agree x y h =
     let ha : Among (suc n) a = x .place in
     let hb : Among (suc n) b = y .place in
     x .changes (omega arith) .0 (agree a ha ∙ y .before a (omega arith) h (x .changes (omega arith) .1))
 
+-- what agrees has the same first jack
 first-same : (n : ℕ) (E : ℕ → Type 0) (s t : ℕ → ℕ) (a b : ℕ) → Agree n s t → First n E s a → First n E t b → a ≡ b
 first-same n E s t a b agree x y =
     either (below? a b)
@@ -59,9 +61,11 @@ Any j = Unit {0}
 abbrev Besides : ℕ → ℕ → ℕ → ℕ → Type 0
 Besides a b c j = (j ≢ a) × (j ≢ b) × (j ≢ c)
 
+-- the move, from a, b, c, d, e
 read : ℕ → ℕ → ℕ → ℕ → ℕ → ℕ → Move
 read n a b c d e = cond (ltb n a) nothing (cond (eqb c a) (cond (ltb n d) (one (swap a b)) (two a b d e)) (one (turn a b c)))
 
+-- the sources s show the numbers from which v is read
 record Known (n : ℕ) (s : ℕ → ℕ) (v : Move) : Type 0 where
   a : ℕ
   b : ℕ
@@ -89,22 +93,7 @@ known-same n s t v w agree x y =
 
 -- ---- every move in the paper's form is read off
 
-swap-first : (a b : ℕ) → source (swap a b) a ≡ b
-unfolding source
-swap-first a b = is-same a a b _ refl
-
-swap-second : (a b : ℕ) → a < b → source (swap a b) b ≡ a
-unfolding source
-swap-second a b h = is-other b a b _ (omega arith) ∙ is-same b b a _ refl
-
-turn-first : (a b c : ℕ) → source (turn a b c) a ≡ b
-unfolding source
-turn-first a b c = is-same a a b _ refl
-
-turn-second : (a b c : ℕ) → a < b → source (turn a b c) b ≡ c
-unfolding source
-turn-second a b c h = is-other b a b _ (omega arith) ∙ is-same b b c _ refl
-
+-- it is so for each kind of move
 known : (n : ℕ) (v : Move) → InForm n v → Known n (sources (orders v)) v
 unfolding read
 known n nothing f =
@@ -176,6 +165,7 @@ known n (two a b c d) f =
 
 -- ---- the law
 
+-- a jack past n is its own source
 sources-past : (n : ℕ) (os : List Order) → AllInShape n os → (j : ℕ) → n < j → sources os j ≡ j
 sources-past n [] s j h = refl
 sources-past n (o ∷ os) s j h = ap (source o) (sources-past n os (s .1) j h) ∙ source-past n o (s .0) j h
