@@ -130,8 +130,12 @@ differing-swaps : (n a b c d : ℕ) (p : List ℕ) → length p ≡ n → Among 
 differing-swaps n a b c d p long ha hb ab hc hd cd =
     let q : List ℕ = carry (swap a b) p in
     let same : length q ≡ length p = length-carry (swap a b) p in
-    omega (arith, differing-by p q (carry (swap c d) q) same, differing-swap a b p (omega arith) (omega arith) ab,
-    differing-swap c d q (omega arith) (omega arith) cd)
+    omega (
+      arith,
+      differing-by p q (carry (swap c d) q) same,
+      differing-swap a b p (omega arith) (omega arith) ab,
+      differing-swap c d q (omega arith) (omega arith) cd,
+    )
 
 four-moved : (n : ℕ) (v : Move) (p : List ℕ) → InForm n v → length p ≡ n → differing p (moved v p) ≤ 4
 unfolding carryAll

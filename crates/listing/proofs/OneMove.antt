@@ -144,7 +144,7 @@ known n (one (turn a b c)) f =
 known n (two a b c d) f =
     let s : ℕ → ℕ = sources (swap a b ∷ swap c d ∷ []) in
     let still : (j : ℕ) → j ≢ a → j ≢ b → j ≢ c → j ≢ d → s j ≡ j =
-        λ j na nb nc nd. ap (source (swap a b)) (source-unnamed (swap c d) j (nc, nd)) ∙ source-unnamed (swap a b) j (na, nb) in
+    λ j na nb nc nd. ap (source (swap a b)) (source-unnamed (swap c d) j (nc, nd)) ∙ source-unnamed (swap a b) j (na, nb) in
     let at-a : s a ≡ b = ap (source (swap a b)) (source-unnamed (swap c d) a (omega arith)) ∙ swap-first a b in
     let at-b : s b ≡ a = ap (source (swap a b)) (source-unnamed (swap c d) b (f .3, f .4)) ∙ swap-second a b (f .0 .1) in
     let at-c : s c ≡ d = ap (source (swap a b)) (swap-first c d) ∙ source-unnamed (swap a b) d (omega arith) in
