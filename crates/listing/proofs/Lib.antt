@@ -1,7 +1,14 @@
 pub mod Numbers
 pub mod Panels
 pub mod Sources
+pub mod Counts
 pub mod StepEntries
+pub mod StepA
+pub mod StepB
+pub mod Shorter
+pub mod Places
+pub mod Ranks
+pub mod Unranks
 pub mod Renamed
 pub mod Moves
 pub mod Lifting
@@ -10,3 +17,7 @@ pub mod Homes
 pub mod Hops
 pub mod Joins
 pub mod OneMove
+pub mod Ends
+pub mod Neighbours
+pub mod Around
+pub mod Limits

@@ -42,7 +42,7 @@ is-tabulated n g p long each =
 
 pub length-carry : (o : Order) (p : List ℕ) → length (carry o p) ≡ length p
 unfolding carry
-length-carry o p = length-tabulate (length p) (λ j. entry p (source o j))
+length-carry o p = length-tabulate (length p) _
 
 pub entry-carry : (o : Order) (p : List ℕ) (j : ℕ) → Among (length p) j → entry (carry o p) j ≡ entry p (source o j)
 unfolding carry

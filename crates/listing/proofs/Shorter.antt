@@ -1,0 +1,110 @@
+-- Every pattern of 2 ports or more comes from exactly one shorter pattern, by exactly one of A and B. What the two steps share is said here once, by the way.
+-- Throughout the longer pattern has m + 2 ports.
+-- Assumes nothing.
+use mathlib.Core.Path.{_≡_, refl, sym, ap, _∙_, subst}
+use mathlib.Core.Logic.{_≢_}
+use mathlib.Core.Bool.{cond}
+use mathlib.Core.List.{List}
+use Prim.Native.Nat.{ℕ, zero, suc}
+use native.Mathlib.Omega.{arith}
+use lib.Dec.{eqb}
+use borrow.Author.Tests.{eq-eqb, ne-eqb}
+use Rattle.listing.specs.Numbers.{Among}
+use Rattle.listing.specs.Pattern.{entry, Derangement}
+use Rattle.listing.specs.Steps.{Way, byA, byB, shorter, step, back, way}
+use Rattle.listing.proofs.Numbers.{either, same?}
+use Rattle.listing.proofs.StepEntries.{A-last, B-at, B-last}
+use Rattle.listing.proofs.StepA.{A-derangement, A-free, unA-stepA, unA-derangement, stepA-unA}
+use Rattle.listing.proofs.StepB.{B-derangement, unB-stepB, unB-derangement, stepB-unB}
+
+-- ---- induction on the shorter patterns
+
+-- what holds for 0 and for 1, and for n + 2 if it does for n + 1 and for n, holds for all
+pub shorter-first : (P : ℕ → Type 0) → P 0 → P 1 → ((m : ℕ) → ((w : Way) → P (shorter w (suc (suc m)))) → P (suc (suc m))) → (n : ℕ) → P n
+shorter-first P none single more zero = none
+shorter-first P none single more (suc zero) = single
+shorter-first P none single more (suc (suc m)) =
+    more m (λ w. elim w [ byA ↦ shorter-first P none single more (suc m) | byB ↦ shorter-first P none single more m ])
+
+-- ---- the longer pattern
+
+-- it is a pattern
+pub step-derangement : (w : Way) (m i : ℕ) (t : List ℕ) → Among (suc m) i → Derangement (shorter w (suc (suc m))) t
+    → Derangement (suc (suc m)) (step w (suc (suc m)) i t)
+step-derangement byA m i t fits D = A-derangement (suc m) i t fits D
+step-derangement byB m i t fits D = B-derangement m i t fits D
+
+-- i stands at its last jack
+pub step-end : (w : Way) (m i : ℕ) (t : List ℕ) → Among (suc m) i → Derangement (shorter w (suc (suc m))) t
+    → entry (step w (suc (suc m)) i t) (suc (suc m)) ≡ i
+step-end byA m i t fits D = A-last (suc (suc m)) i t (omega arith)
+step-end byB m i t fits D = B-last (suc (suc m)) i t (omega arith)
+
+-- the step back leads back
+pub back-step : (w : Way) (m i : ℕ) (t : List ℕ) → Among (suc m) i → Derangement (shorter w (suc (suc m))) t
+    → back w (suc (suc m)) (step w (suc (suc m)) i t) ≡ t
+back-step byA m i t fits D = unA-stepA (suc m) i t fits D
+back-step byB m i t fits D = unB-stepB m i t fits D
+
+-- ---- the way
+
+way-B : (m : ℕ) (p : List ℕ) (i : ℕ) → entry p (suc (suc m)) ≡ i → entry p i ≡ suc (suc m) → way (suc (suc m)) p ≡ byB
+unfolding way
+way-B m p i last held = rw (last, eq-eqb (entry p i) (suc (suc m)) held)
+
+way-A : (m : ℕ) (p : List ℕ) (i : ℕ) → entry p (suc (suc m)) ≡ i → entry p i ≢ suc (suc m) → way (suc (suc m)) p ≡ byA
+unfolding way
+way-A m p i last free = rw (last, ne-eqb (entry p i) (suc (suc m)) free)
+
+-- a pattern shows the way that it was made
+pub way-step : (w : Way) (m i : ℕ) (t : List ℕ) → Among (suc m) i → Derangement (shorter w (suc (suc m))) t
+    → way (suc (suc m)) (step w (suc (suc m)) i t) ≡ w
+way-step byA m i t fits D = way-A m (step byA (suc (suc m)) i t) i (step-end byA m i t fits D) (A-free (suc m) i t fits D)
+way-step byB m i t fits D = way-B m (step byB (suc (suc m)) i t) i (step-end byB m i t fits D) (B-at (suc (suc m)) i t (omega arith) (omega arith))
+
+-- ---- every pattern has been made
+
+-- p is made by a way, with an i of 1 to n - 1, from a shorter pattern
+pub record Made (m : ℕ) (p : List ℕ) : Type 0 where
+  pub by : Way
+  pub i : ℕ
+  pub from : List ℕ
+  pub fits : Among (suc m) i
+  pub pattern : Derangement (shorter by (suc (suc m))) from
+  pub is : p ≡ step by (suc (suc m)) i from
+
+-- with i the entry at jack n: by B if jack i holds n, else by A
+pub made : (m : ℕ) (p : List ℕ) → Derangement (suc (suc m)) p → Made m p
+made m p D =
+    let i = entry p (suc (suc m)) in
+    let fits : Among (suc m) i = omega (arith, D .permutation .ports (suc (suc m)) (omega arith), D .moved (suc (suc m)) (omega arith)) in
+    either (same? (entry p i) (suc (suc m)))
+    (λ held.
+    record {
+      by = byB;
+      i = i;
+      from = back byB (suc (suc m)) p;
+      fits = fits;
+      pattern = unB-derangement m i p D refl held;
+      is = sym (stepB-unB m i p D refl held);
+    })
+    (λ free.
+    record {
+      by = byA;
+      i = i;
+      from = back byA (suc (suc m)) p;
+      fits = fits;
+      pattern = unA-derangement (suc m) i p D refl free;
+      is = sym (stepA-unA (suc m) i p D refl free);
+    })
+
+-- and in one way only: two that make the same pattern are the same way, with the same i, from the same shorter pattern
+pub made-once : (m : ℕ) (v w : Way) (i k : ℕ) (t u : List ℕ) → Among (suc m) i → Among (suc m) k
+    → Derangement (shorter v (suc (suc m))) t → Derangement (shorter w (suc (suc m))) u
+    → step v (suc (suc m)) i t ≡ step w (suc (suc m)) k u → (v ≡ w) × (i ≡ k) × (t ≡ u)
+made-once m v w i k t u fits fits′ D E e =
+    let n = suc (suc m) in
+    let same : v ≡ w = sym (way-step v m i t fits D) ∙ ap (way n) e ∙ way-step w m k u fits′ E in
+    (same,
+    sym (step-end v m i t fits D) ∙ ap (λ (p : List ℕ). entry p n) e ∙ step-end w m k u fits′ E,
+    sym (back-step v m i t fits D) ∙ ap (back v n) e ∙ ap (λ (x : Way). back x n (step w n k u)) same ∙ back-step w m k u fits′ E)

@@ -1,0 +1,17 @@
+# The proofs: `rt ci` from nothing. Its own last line is counted into ours.
+log=$(mktemp)
+if rt ci >"$log" 2>&1; then verdict=0; else verdict=$?; fi
+cat "$log"
+last=$(tail -n 1 "$log")
+rm -f "$log"
+case $last in
+    [0-9]*' passed, '[0-9]*' failed')
+        ci_passed=${last%% passed*}
+        ci_failed=${last#*, }
+        ci_failed=${ci_failed%% failed}
+        passed=$((passed + ci_passed))
+        failed=$((failed + ci_failed))
+        [ "$verdict" -eq 0 ] || [ "$ci_failed" -gt 0 ] || fail "rt ci ended with status $verdict"
+        ;;
+    *) fail "rt ci ended with status $verdict and no count" ;;
+esac
