@@ -13,6 +13,7 @@ pub mod Renamed
 pub mod Moves
 pub mod Lifting
 pub mod Rows
+pub mod EndEntries
 pub mod Homes
 pub mod Hops
 pub mod Joins

@@ -11,11 +11,12 @@ use Rattle.listing.specs.Pattern.{entry}
 use Rattle.listing.specs.Steps.{stepA, stepB}
 use Rattle.listing.specs.Orders.{Order, swap, turn, source, carry, carryAll, InShape, AllInShape}
 use Rattle.listing.specs.Orders.{Move, nothing, one, two, orders, InForm, Leads, raisedOrder, raised}
-use Rattle.listing.proofs.Numbers.{either, same?, lower-cases, raise-near, raise-less, raise-inj, raise-lower}
+use Rattle.listing.proofs.Numbers.{either, same?, raise-near, raise-less, raise-inj, raise-lower}
 use Rattle.listing.proofs.Panels.{length-carry, entry-carry, carries-to}
 use Rattle.listing.proofs.Sources.{Each, source-unnamed, shape-each, source-among, source-past}
 use Rattle.listing.proofs.Renamed.{renamed, source-renamed}
 use Rattle.listing.proofs.Moves.{orders-shaped}
+use Rattle.listing.proofs.StepB.{lower-among}
 use Rattle.listing.proofs.StepEntries.{length-A, A-other, A-last, length-B, B-at, B-last, B-raised}
 
 -- ---- A(i)
@@ -78,10 +79,6 @@ raised-shape n i (turn a b c) s =
 raised-free : (i : ℕ) (o : Order) → Each (λ a. i ≢ a) (raisedOrder i o)
 raised-free i (swap a b) = omega (arith, raise-near i a, raise-near i b)
 raised-free i (turn a b c) = omega (arith, raise-near i a, raise-near i b, raise-near i c)
-
--- a jack other than i comes down to one of 1..m
-pub lower-among : (m i j : ℕ) → Among (suc m) i → Among (suc m) j → j ≢ i → Among m (lower i j)
-lower-among m i j hi hj ne = either (lower-cases i j) (λ c. omega arith) (λ c. omega arith)
 
 -- at the jack that jack u of the shorter pattern becomes
 from-B : (m i : ℕ) → Among (suc m) i → (o : Order) (p : List ℕ) → InShape m o → length p ≡ m → (u : ℕ) → Among m u
