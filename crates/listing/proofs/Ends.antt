@@ -1,22 +1,22 @@
 -- The list begins at home and ends with `last` (Lemma 3 of document 000), and the paper's anchors: no pattern for 1, (2,1) alone for 2.
 -- Assumes nothing.
 use mathlib.Core.Path.{_≡_, refl, sym, ap, _∙_}
-use mathlib.Core.Logic.{_≢_}
-use mathlib.Core.Bool.{Bool, true, false, not, cond}
+use mathlib.Core.Bool.{true, false, cond}
 use mathlib.Core.List.{List, [], _∷_}
-use Prim.Native.Nat.{ℕ, zero, suc, _+_, _*_, _-_, _≤_, _<_}
+use Prim.Native.Nat.{ℕ, zero, suc, _+_, _*_, _<_}
 use native.Mathlib.Omega.{arith}
 use lib.ListN.{length}
-use Rattle.listing.specs.Numbers.{Among, before, is, trade, raise, lower, odd}
+use Rattle.listing.specs.Numbers.{Among, is, trade, raise, lower, odd}
 use Rattle.listing.specs.Pattern.{entry, tabulate}
 use Rattle.listing.specs.Count.{count}
 use Rattle.listing.specs.Steps.{byA, byB, stepA, stepB}
 use Rattle.listing.specs.Listing.{joined, block, blocks, listing, at}
-use Rattle.listing.specs.Rank.{fromEnd, perBlock, place}
+use Rattle.listing.specs.Rank.{perBlock, place}
 use Rattle.listing.specs.Ends.{home, last}
-use Rattle.listing.proofs.Numbers.{either, below?, same?, test, is-same, is-other, is-cases, trade-cases, raise-low, odd-next}
-use Rattle.listing.proofs.Panels.{same-entries, length-tabulate, entry-tabulate}
+use Rattle.listing.proofs.Numbers.{either, below?, same?, test, raise-low, odd-next}
+use Rattle.listing.proofs.Panels.{same-entries}
 use Rattle.listing.proofs.StepEntries.{length-A, A-kept, A-held, A-last, length-B, B-at, B-last, B-raised}
+use Rattle.listing.proofs.EndEntries.{length-home, home-low, home-top, length-last, last-low, last-third, last-second, last-top}
 use Rattle.listing.proofs.Counts.{count-blocks, count-pos}
 use Rattle.listing.proofs.Places.{at-place}
 
@@ -30,21 +30,7 @@ pub listing-2 : listing 2 ≡ (2 ∷ 1 ∷ []) ∷ []
 unfolding listing blocks block joined stepA stepB odd is trade raise lower tabulate
 listing-2 = refl
 
--- ---- home at each jack
-
-pub length-home : (n : ℕ) → length (home n) ≡ n
-unfolding home
-length-home n = length-tabulate n _
-
--- each jack but the last holds the next port
-pub home-low : (n j : ℕ) → Among n j → j ≢ n → entry (home n) j ≡ suc j
-unfolding home
-home-low n j h d = entry-tabulate n (λ k. is k n 1 (suc k)) j h ∙ is-other j n 1 (suc j) d
-
--- the last jack holds port 1
-pub home-end : (m : ℕ) → entry (home (suc m)) (suc m) ≡ 1
-unfolding home
-home-end m = entry-tabulate (suc m) (λ k. is k (suc m) 1 (suc k)) (suc m) (omega arith) ∙ is-same (suc m) (suc m) 1 (suc (suc m)) refl
+-- ---- the first pattern
 
 -- A(1) of home is home with one port more
 home-step : (m : ℕ) → stepA (suc (suc m)) 1 (home (suc m)) ≡ home (suc (suc m))
@@ -54,11 +40,11 @@ home-step m =
     let len : length (stepA n 1 t) ≡ n = length-A n 1 t in
     same-entries (stepA n 1 t) (home n) (len ∙ sym (length-home n)) (λ j h.
     either (same? j n)
-    (λ e. rw e (A-last n 1 t (omega arith) ∙ sym (home-end (suc m))))
+    (λ e. rw e (A-last n 1 t (omega arith) ∙ sym (home-top n n (omega arith) refl)))
     (λ d.
     let here : entry (home n) j ≡ suc j = home-low n j (omega arith) d in
     either (same? j (suc m))
-    (λ e. A-held n 1 t j (omega arith) d (ap (entry t) e ∙ home-end m) ∙ omega arith)
+    (λ e. A-held n 1 t j (omega arith) d (home-top (suc m) j (omega arith) e) ∙ omega arith)
     (λ f.
     let there : entry t j ≡ suc j = home-low (suc m) j (omega arith) f in
     A-kept n 1 t j (omega arith) d (omega arith) ∙ there ∙ sym here)))
@@ -82,48 +68,7 @@ at-home (suc m) =
     ∙ ap (stepA n 1) (at-home m)
     ∙ home-step (suc m)
 
--- ---- the last pattern at each jack, for x + 3 ports
-
-pub length-last : (n : ℕ) → length (last n) ≡ n
-unfolding last
-length-last n = length-tabulate n _
-
-module _ (x : ℕ) where
-  abbrev n : ℕ
-  n = suc (suc (suc x))
-
-  abbrev top : ℕ → ℕ
-  top j = is j (n - 1) (cond (odd n) 1 n) (is j (n - 2) (cond (odd n) n 1) (suc j))
-
-  entry-last : (j : ℕ) → Among n j → entry (last n) j ≡ is j n (n - 1) (top j)
-  unfolding last
-  entry-last j h = entry-tabulate n (λ k. is k n (n - 1) (top k)) j h
-
-  -- the first x jacks hold the next port
-  pub last-low : (j : ℕ) → Among x j → entry (last n) j ≡ suc j
-  last-low j h =
-      entry-last j (omega arith)
-      ∙ is-other j n (n - 1) (top j) (omega arith)
-      ∙ is-other j (n - 1) (cond (odd n) 1 n) (is j (n - 2) (cond (odd n) n 1) (suc j)) (omega arith)
-      ∙ is-other j (n - 2) (cond (odd n) n 1) (suc j) (omega arith)
-
-  -- the next two hold n and 1, in this order for odd n
-  pub last-third : entry (last n) (suc x) ≡ cond (odd n) n 1
-  last-third =
-      entry-last (suc x) (omega arith)
-      ∙ is-other (suc x) n (n - 1) (top (suc x)) (omega arith)
-      ∙ is-other (suc x) (n - 1) (cond (odd n) 1 n) (is (suc x) (n - 2) (cond (odd n) n 1) (suc (suc x))) (omega arith)
-      ∙ is-same (suc x) (n - 2) (cond (odd n) n 1) (suc (suc x)) (omega arith)
-
-  pub last-second : entry (last n) (suc (suc x)) ≡ cond (odd n) 1 n
-  last-second =
-      entry-last (suc (suc x)) (omega arith)
-      ∙ is-other (suc (suc x)) n (n - 1) (top (suc (suc x))) (omega arith)
-      ∙ is-same (suc (suc x)) (n - 1) (cond (odd n) 1 n) (is (suc (suc x)) (n - 2) (cond (odd n) n 1) n) (omega arith)
-
-  -- the last holds n - 1
-  pub last-end : entry (last n) n ≡ suc (suc x)
-  last-end = entry-last n (omega arith) ∙ is-same n n (n - 1) (top n) refl ∙ omega arith
+-- ---- the last pattern, for x + 3 ports
 
 -- a pattern that has these entries is the last
 is-last : (x : ℕ) (p : List ℕ) → length p ≡ suc (suc (suc x)) → ((j : ℕ) → Among x j → entry p j ≡ suc j)
@@ -137,10 +82,10 @@ is-last x p long low third second end =
     either (below? (suc x) j)
     (λ b.
     either (below? (suc (suc x)) j)
-    (λ c. let e : j ≡ suc (suc (suc x)) = omega arith in rw e (end ∙ sym (last-end x)))
-    (λ c. let e : j ≡ suc (suc x) = omega arith in rw e (second ∙ sym (last-second x))))
-    (λ b. let e : j ≡ suc x = omega arith in rw e (third ∙ sym (last-third x))))
-    (λ a. low j (omega arith) ∙ sym (last-low x j (omega arith))))
+    (λ c. let e : j ≡ suc (suc (suc x)) = omega arith in rw e (end ∙ sym (last-top (suc x) (omega arith))))
+    (λ c. let e : j ≡ suc (suc x) = omega arith in rw e (second ∙ sym (last-second (suc x) (omega arith)))))
+    (λ b. let e : j ≡ suc x = omega arith in rw e (third ∙ sym (last-third (suc x) (omega arith)))))
+    (λ a. low j (omega arith) ∙ sym (last-low (suc x) (omega arith) j (omega arith) (omega arith))))
 
 -- for odd n it is A(n-1) of home
 last-by-A : (x : ℕ) → odd (suc (suc x)) ≡ false → stepA (suc (suc (suc x))) (suc (suc x)) (home (suc (suc x))) ≡ last (suc (suc (suc x)))
@@ -152,7 +97,7 @@ last-by-A x even =
     is-last x (stepA n i t) (length-A n i t)
     (λ j h. let e = home-low i j (omega arith) (omega arith) in A-kept n i t j (omega arith) (omega arith) (omega arith) ∙ e)
     (rw odd-n (A-held n i t (suc x) (omega arith) (omega arith) (home-low i (suc x) (omega arith) (omega arith))))
-    (rw odd-n (A-kept n i t i (omega arith) (omega arith) (omega (arith, home-end (suc x))) ∙ home-end (suc x)))
+    (rw odd-n (A-kept n i t i (omega arith) (omega arith) (omega (arith, home-top i i (omega arith) refl)) ∙ home-top i i (omega arith) refl))
     (A-last n i t (omega arith))
 
 -- for even n it is B(n-1) of home
@@ -163,10 +108,10 @@ last-by-B x is-odd =
     let t = home (suc x) in
     let even-n : odd n ≡ false = odd-next i ∙ rw is-odd in
     let kept : (j : ℕ) → Among (suc x) j → entry (stepB n i t) j ≡ raise i (entry t j) = λ j h.
-        (rw (raise-low i j (omega arith)) at (B-raised n i t j (rw (raise-low i j (omega arith)) (omega arith)) (rw (raise-low i j (omega arith)) (omega arith)))) in
+    let low : raise i j ≡ j = raise-low i j (omega arith) in rw low at (B-raised n i t j (omega arith) (omega arith)) in
     is-last x (stepB n i t) (length-B n i t)
     (λ j h. kept j (omega arith) ∙ ap (raise i) (home-low (suc x) j (omega arith) (omega arith)) ∙ raise-low i (suc j) (omega arith))
-    (rw even-n (kept (suc x) (omega arith) ∙ ap (raise i) (home-end x) ∙ raise-low i 1 (omega arith)))
+    (rw even-n (kept (suc x) (omega arith) ∙ ap (raise i) (home-top (suc x) (suc x) (omega arith) refl) ∙ raise-low i 1 (omega arith)))
     (rw even-n (B-at n i t (omega arith) (omega arith)))
     (B-last n i t (omega arith))
 

@@ -1,7 +1,7 @@
 -- Home, and the patterns that A(i) and B(i) make of it: with port n added on jack n, home becomes A(i) of home by one swap and B(i) of home by one turn.
 -- Assumes nothing.
 use mathlib.Core.Path.{_≡_, refl, sym, _∙_}
-use mathlib.Core.Logic.{_≢_, _⊎_, inl, inr}
+use mathlib.Core.Logic.{_≢_}
 use mathlib.Core.List.{List}
 use Prim.Native.Nat.{ℕ, suc, _≤_, _<_}
 use native.Mathlib.Omega.{arith}
@@ -11,33 +11,14 @@ use Rattle.listing.specs.Pattern.{entry, tabulate}
 use Rattle.listing.specs.Steps.{stepA, stepB}
 use Rattle.listing.specs.Ends.{home}
 use Rattle.listing.specs.Orders.{swap, turn, carry}
-use Rattle.listing.proofs.Numbers.{either, same?, is-same, is-other, trade-cases, raise-cases, raise-low, raise-high, raise-lower}
+use Rattle.listing.proofs.Numbers.{either, is-same, is-other, trade-cases, raise-cases, raise-low, raise-high, raise-lower}
 use Rattle.listing.proofs.Panels.{length-tabulate, entry-tabulate, carries-to}
 use Rattle.listing.proofs.Sources.{by-swap, by-turn}
 use Rattle.listing.proofs.StepEntries.{length-A, A-kept, A-held, A-last, length-B, B-at, B-last, B-raised}
-use Rattle.listing.proofs.Lifting.{lower-among}
+use Rattle.listing.proofs.StepB.{lower-among}
+use Rattle.listing.proofs.EndEntries.{home-low, home-top, home-cases}
 
--- ---- home
-
-pub length-home : (n : ℕ) → length (home n) ≡ n
-unfolding home
-length-home n = length-tabulate n _
-
--- jack j holds port j + 1
-pub home-low : (n j : ℕ) → 1 ≤ j → j < n → entry (home n) j ≡ suc j
-unfolding home
-home-low n j low h = entry-tabulate n (λ k. is k n 1 (suc k)) j (omega arith) ∙ is-other j n 1 (suc j) (omega arith)
-
--- and jack n port 1
-pub home-top : (n j : ℕ) → 1 ≤ j → j ≡ n → entry (home n) j ≡ 1
-unfolding home
-home-top n j low e = entry-tabulate n (λ k. is k n 1 (suc k)) j (omega arith) ∙ is-same j n 1 (suc j) e
-
-home-cases : (n j : ℕ) → Among n j → ((j < n) × (entry (home n) j ≡ suc j)) ⊎ ((j ≡ n) × (entry (home n) j ≡ 1))
-home-cases n j h =
-    either (same? j n)
-    (λ e. inr (e, home-top n j (omega arith) e))
-    (λ e. let low : j < n = omega arith in inl (low, home-low n j (omega arith) low))
+-- ---- who holds a port
 
 -- jack x of t, and no other, holds port i
 pub record Holds (n : ℕ) (t : List ℕ) (x i : ℕ) : Type 0 where
@@ -45,19 +26,21 @@ pub record Holds (n : ℕ) (t : List ℕ) (x i : ℕ) : Type 0 where
   pub here : entry t x ≡ i
   pub only : (j : ℕ) → Among n j → entry t j ≡ i → j ≡ x
 
+-- port x + 1 is on jack x
 pub home-holds : (n x : ℕ) → 1 ≤ x → x < n → Holds n (home n) x (suc x)
 home-holds n x low h =
     record {
       among = omega arith;
-      here = home-low n x low h;
+      here = home-low n x (omega arith) (omega arith);
       only = λ j hj e. either (home-cases n j hj) (λ c. omega arith) (λ c. omega arith);
     }
 
+-- port 1 is on the last jack
 pub home-holds-one : (n : ℕ) → 1 ≤ n → Holds n (home n) n 1
 home-holds-one n h =
     record {
       among = omega arith;
-      here = home-top n n h refl;
+      here = home-top n n (omega arith) refl;
       only = λ j hj e. either (home-cases n j hj) (λ c. omega arith) (λ c. c .0);
     }
 
@@ -111,6 +94,7 @@ home-raised m i u hi hu =
     (λ t. omega (arith, raise-high i 1 (omega arith), home-low (suc m) i (omega arith) (omega arith)))
     (λ t. omega (arith, raise-low i 1 (omega arith)))))))
 
+-- so B(i) of home has, at each jack but i and n, the port that home has there, the port after i in the place of i
 B-home : (m i j : ℕ) → Among (suc m) i → Among (suc m) j → j ≢ i
     → entry (stepB (suc (suc m)) i (home m)) j ≡ trade i (entry (home (suc m)) i) (entry (home (suc m)) j)
 B-home m i j hi hj ne =

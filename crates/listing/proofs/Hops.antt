@@ -3,9 +3,9 @@
 -- Assumes nothing.
 use mathlib.Core.Path.{_≡_, refl, sym, _∙_}
 use mathlib.Core.Logic.{_≢_}
-use mathlib.Core.Bool.{Bool, true, false, cond}
+use mathlib.Core.Bool.{Bool, true, false}
 use mathlib.Core.List.{List, [], _∷_}
-use Prim.Native.Nat.{ℕ, zero, suc, _+_, _-_, _≤_, _<_}
+use Prim.Native.Nat.{ℕ, zero, suc, _+_, _-_, _≤_}
 use native.Mathlib.Omega.{arith}
 use lib.ListN.{length}
 use Rattle.listing.specs.Numbers.{Among, is, odd}
@@ -14,12 +14,13 @@ use Rattle.listing.specs.Steps.{stepA, stepB}
 use Rattle.listing.specs.Ends.{home, last}
 use Rattle.listing.specs.Orders.{Order, swap, turn, source, carry, carryAll, one, Leads}
 use Rattle.listing.specs.Joins.{hopA, hopB, closing}
-use Rattle.listing.proofs.Numbers.{either, same?, is-same, is-other}
-use Rattle.listing.proofs.Panels.{length-tabulate, entry-tabulate, carries-to}
+use Rattle.listing.proofs.Numbers.{either, same?}
+use Rattle.listing.proofs.Panels.{carries-to}
 use Rattle.listing.proofs.Sources.{by-swap, by-turn}
 use Rattle.listing.proofs.Renamed.{EachOf, on, plain, same-orders}
 use Rattle.listing.proofs.StepEntries.{length-A, length-B}
-use Rattle.listing.proofs.Homes.{length-home, home-low, home-top, Holds, home-holds, home-holds-one, added, length-added, A-swap, B-turn}
+use Rattle.listing.proofs.EndEntries.{length-home, home-low, home-top, length-last, last-low, last-third, last-second, last-top}
+use Rattle.listing.proofs.Homes.{Holds, home-holds, home-holds-one, added, length-added, A-swap, B-turn}
 use Rattle.listing.proofs.Rows.{hopA-one, hopA-more, hopB-one, hopB-more, closing-two, closing-odd, closing-even}
 
 -- ---- relations (5) and (3)
@@ -105,60 +106,39 @@ hopB-leads m (suc (suc h)) big hi =
 
 -- ---- from the last pattern to the first
 
-pub length-last : (n : ℕ) → length (last n) ≡ n
-unfolding last
-length-last n = length-tabulate n _
-
+-- for 2 ports the last pattern is the first
 last-two : carryAll [] (last 2) ≡ home 2
 unfolding carryAll last home tabulate is odd
 last-two = refl
 
--- the last pattern, n = c + 2: (2, .., c, n, 1, c + 1) for odd n, (2, .., c, 1, n, c + 1) for even n
+-- n = c + 2
 module _ (c : ℕ) (pos : 1 ≤ c) where
   abbrev n : ℕ
   n = suc (suc c)
 
-  entry-last : (j : ℕ) → Among n j → entry (last n) j ≡ is j n (suc c) (is j (suc c) (cond (odd n) 1 n) (is j c (cond (odd n) n 1) (suc j)))
-  unfolding last
-  entry-last j h =
-      let one-less : n - 1 ≡ suc c = omega arith in
-      let two-less : n - 2 ≡ c = omega arith in
-      entry-tabulate n _ j h ∙ rw (one-less, two-less)
-
-  last-low : (j : ℕ) → 1 ≤ j → j < c → entry (last n) j ≡ suc j
-  last-low j low h =
-      entry-last j (omega arith) ∙ is-other j n _ _ (omega arith) ∙ is-other j (suc c) _ _ (omega arith) ∙ is-other j c _ _ (omega arith)
-
-  last-third : entry (last n) c ≡ cond (odd n) n 1
-  last-third = entry-last c (omega arith) ∙ is-other c n _ _ (omega arith) ∙ is-other c (suc c) _ _ (omega arith) ∙ is-same c c _ _ refl
-
-  last-second : entry (last n) (suc c) ≡ cond (odd n) 1 n
-  last-second = entry-last (suc c) (omega arith) ∙ is-other (suc c) n _ _ (omega arith) ∙ is-same (suc c) (suc c) _ _ refl
-
-  last-top : entry (last n) n ≡ suc c
-  last-top = entry-last n (omega arith) ∙ is-same n n _ _ refl
-
+  -- one turn closes the circuit for odd n, one swap for even n
   closes-odd : odd n ≡ true → carry (turn c n (suc c)) (last n) ≡ home n
   closes-odd b =
       let len : length (last n) ≡ n = length-last n in
       carries-to (turn c n (suc c)) (last n) (home n) (length-home n ∙ sym len) (λ j h.
       by-turn (λ k. entry (last n) k ≡ entry (home n) j) c n (suc c) j
-      (λ e. rw e (last-top ∙ sym (home-low n c pos (omega arith))))
-      (λ x e. rw e (last-second ∙ rw b (sym (home-top n n (omega arith) refl))))
-      (λ x y e. rw e (last-third ∙ rw b (sym (home-low n (suc c) (omega arith) (omega arith)))))
-      (λ x y z. last-low j (omega arith) (omega arith) ∙ sym (home-low n j (omega arith) (omega arith))))
+      (λ e. rw e (last-top c pos ∙ sym (home-low n c (omega arith) (omega arith))))
+      (λ x e. rw e (last-second c pos ∙ rw b (sym (home-top n n (omega arith) refl))))
+      (λ x y e. rw e (last-third c pos ∙ rw b (sym (home-low n (suc c) (omega arith) (omega arith)))))
+      (λ x y z. last-low c pos j (omega arith) (omega arith) ∙ sym (home-low n j (omega arith) (omega arith))))
 
   closes-even : odd n ≡ false → carry (swap c n) (last n) ≡ home n
   closes-even b =
       let len : length (last n) ≡ n = length-last n in
       carries-to (swap c n) (last n) (home n) (length-home n ∙ sym len) (λ j h.
       by-swap (λ k. entry (last n) k ≡ entry (home n) j) c n j
-      (λ e. rw e (last-top ∙ sym (home-low n c pos (omega arith))))
-      (λ x e. rw e (last-third ∙ rw b (sym (home-top n n (omega arith) refl))))
+      (λ e. rw e (last-top c pos ∙ sym (home-low n c (omega arith) (omega arith))))
+      (λ x e. rw e (last-third c pos ∙ rw b (sym (home-top n n (omega arith) refl))))
       (λ x y. either (same? j (suc c))
-      (λ e. rw e (last-second ∙ rw b (sym (home-low n (suc c) (omega arith) (omega arith)))))
-      (λ z. last-low j (omega arith) (omega arith) ∙ sym (home-low n j (omega arith) (omega arith)))))
+      (λ e. rw e (last-second c pos ∙ rw b (sym (home-low n (suc c) (omega arith) (omega arith)))))
+      (λ z. last-low c pos j (omega arith) (omega arith) ∙ sym (home-low n j (omega arith) (omega arith)))))
 
+  -- the closing move in c
   pub closing-turn : odd n ≡ true → closing n ≡ one (turn c n (suc c))
   closing-turn b =
       let one-less : n - 1 ≡ suc c = omega arith in

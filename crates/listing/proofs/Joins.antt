@@ -72,6 +72,7 @@ module _ (k : ℕ) (pos : 1 ≤ k) where
   three true x i r s t = swap k₁ k₃ ∷ swap x i ∷ turn r s t ∷ []
   three false x i r s t = turn k₁ k₃ k₂ ∷ swap x i ∷ swap r t ∷ []
 
+  -- by the closing move, the swap, and the closing move back
   way-round : (i x : ℕ) → Among k₃ i → x ≢ i → Holds k₃ (home k₃) x i
       → moved (raised i (inverse (closing k₂))) (carry (swap x i) (moved (closing k₃) (from i))) ≡ to i
   way-round i x hi ne holds =
@@ -108,9 +109,11 @@ module _ (k : ℕ) (pos : 1 ≤ k) where
 
   -- ---- the rows of relation (8)
 
+  -- the jacks as the table has them
   less : (n - 4 ≡ k) × (n - 3 ≡ k₁) × (n - 2 ≡ k₂) × (n - 1 ≡ k₃)
   less = omega arith
 
+  -- port 1 of home is on its last jack, port h + 1 on jack h
   place-one : Place 1 k₃ k₁ k₂ k₃
   place-one =
       record {
@@ -131,6 +134,7 @@ module _ (k : ℕ) (pos : 1 ≤ k) where
       → (p : List ℕ) → length p ≡ n → carryAll (on (k ∷ k₁ ∷ k₂ ∷ k₃ ∷ []) os) p ≡ carryAll (on (k ∷ k₁ ∷ k₂ ∷ k₃ ∷ []) rs) p
   on-four = same-orders n (k ∷ k₁ ∷ k₂ ∷ k₃ ∷ []) (omega arith)
 
+  -- i = 1
   row-one : (b : Bool) → odd n ≡ b → Leads n (join n 1) (from 1) (to 1)
   unfolding carryAll carry plain tabulate source is
   row-one true b =
@@ -142,6 +146,7 @@ module _ (k : ℕ) (pos : 1 ≤ k) where
       (same-orders n (1 ∷ k₁ ∷ k₂ ∷ k₃ ∷ []) (omega arith)
       (turn 2 4 3 ∷ swap 4 1 ∷ swap 2 4 ∷ []) (turn 1 3 2 ∷ []) (omega arith) (omega arith) refl)
 
+  -- i from 2 to n-4, as h + 1
   row-inner : (b : Bool) → odd n ≡ b → (h : ℕ) → 1 ≤ h → h < k → Leads n (join n (suc h)) (from (suc h)) (to (suc h))
   unfolding carryAll carry plain tabulate source is
   row-inner b parity h low high =
@@ -155,6 +160,7 @@ module _ (k : ℕ) (pos : 1 ≤ k) where
       (same-orders n (h ∷ i ∷ k₁ ∷ k₂ ∷ k₃ ∷ []) (omega arith)
       (turn 3 5 4 ∷ swap 1 2 ∷ swap 3 5 ∷ []) (swap 1 2 ∷ swap 3 4 ∷ []) (omega arith) (omega arith) refl)
 
+  -- i = n-3
   row-third : (b : Bool) → odd n ≡ b → Leads n (join n k₁) (from k₁) (to k₁)
   unfolding carryAll carry plain tabulate source is
   row-third b parity =
@@ -164,6 +170,7 @@ module _ (k : ℕ) (pos : 1 ≤ k) where
       (on-four (swap 2 4 ∷ swap 1 2 ∷ turn 1 3 4 ∷ []) (turn 1 3 2 ∷ []) (omega arith) (omega arith) refl)
       (on-four (turn 2 4 3 ∷ swap 1 2 ∷ swap 1 4 ∷ []) (turn 1 3 2 ∷ []) (omega arith) (omega arith) refl)
 
+  -- i = n-2
   row-second : (b : Bool) → odd n ≡ b → Leads n (join n k₂) (from k₂) (to k₂)
   unfolding carryAll carry plain tabulate source is
   row-second b parity =
@@ -177,6 +184,7 @@ module _ (k : ℕ) (pos : 1 ≤ k) where
   place-top =
       place-more k₂ k k₁ k₂ (omega arith) (omega arith) (raise-low k₃ k (omega arith)) (raise-low k₃ k₁ (omega arith)) (raise-low k₃ k₂ (omega arith))
 
+  -- i = n-1
   row-top : (b : Bool) → odd n ≡ b → Leads n (join n k₃) (from k₃) (to k₃)
   unfolding carryAll carry plain tabulate source is
   row-top true b =
@@ -188,6 +196,7 @@ module _ (k : ℕ) (pos : 1 ≤ k) where
       (two k k₂ k₁ k₃) (join-top-even n k₃ (omega arith) (omega arith) b ∙ rw (less .0, less .1, less .2, less .3)) (omega arith)
       (on-four (turn 2 4 3 ∷ swap 3 4 ∷ swap 1 3 ∷ []) (swap 1 3 ∷ swap 2 4 ∷ []) (omega arith) (omega arith) refl)
 
+  -- and these are all
   rows : (b : Bool) → odd n ≡ b → (i : ℕ) → Among k₃ i → Leads n (join n i) (from i) (to i)
   rows b parity zero hi = absurd (omega arith)
   rows b parity (suc zero) hi = row-one b parity
@@ -202,6 +211,7 @@ module _ (k : ℕ) (pos : 1 ≤ k) where
 
 -- ---- relation (7), by computation
 
+-- n = 4
 join-four : (i : ℕ) → Among 3 i → Leads 4 (join 4 i) (stepA 4 i (last 3)) (stepB 4 i (last 2))
 unfolding join join4 carryAll carry tabulate source stepA stepB last odd is trade raise lower
 join-four zero hi = absurd (omega arith)

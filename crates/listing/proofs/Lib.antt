@@ -13,9 +13,11 @@ pub mod Renamed
 pub mod Moves
 pub mod Lifting
 pub mod Rows
+pub mod EndEntries
 pub mod Homes
 pub mod Hops
 pub mod Joins
+pub mod OneMove
 pub mod Ends
 pub mod Neighbours
 pub mod Around

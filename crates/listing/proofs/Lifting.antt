@@ -11,11 +11,12 @@ use Rattle.listing.specs.Pattern.{entry}
 use Rattle.listing.specs.Steps.{stepA, stepB}
 use Rattle.listing.specs.Orders.{Order, swap, turn, source, carry, carryAll, InShape, AllInShape}
 use Rattle.listing.specs.Orders.{Move, nothing, one, two, orders, InForm, Leads, raisedOrder, raised}
-use Rattle.listing.proofs.Numbers.{either, same?, lower-cases, raise-near, raise-less, raise-inj, raise-lower}
+use Rattle.listing.proofs.Numbers.{either, same?, raise-near, raise-less, raise-inj, raise-lower}
 use Rattle.listing.proofs.Panels.{length-carry, entry-carry, carries-to}
-use Rattle.listing.proofs.Sources.{source-among, source-past}
-use Rattle.listing.proofs.Renamed.{Each, renamed, source-unnamed, source-renamed}
-use Rattle.listing.proofs.Moves.{shape-each, orders-shaped}
+use Rattle.listing.proofs.Sources.{Each, source-unnamed, shape-each, source-among, source-past}
+use Rattle.listing.proofs.Renamed.{renamed, source-renamed}
+use Rattle.listing.proofs.Moves.{orders-shaped}
+use Rattle.listing.proofs.StepB.{lower-among}
 use Rattle.listing.proofs.StepEntries.{length-A, A-other, A-last, length-B, B-at, B-last, B-raised}
 
 -- ---- A(i)
@@ -34,6 +35,7 @@ carry-A m i o p s long =
     ∙ ap (trade i n) (sym (entry-carry o p j (omega arith)))
     ∙ sym (A-other n i (carry o p) j (omega arith) ne)))
 
+-- and so do several
 carryAll-A : (m i : ℕ) (os : List Order) (p : List ℕ) → AllInShape (suc m) os → length p ≡ suc m
     → carryAll os (stepA (suc (suc m)) i p) ≡ stepA (suc (suc m)) i (carryAll os p)
 unfolding carryAll
@@ -58,24 +60,25 @@ leads-A m i {v} {p} {q} l =
 
 -- ---- B(i)
 
+-- to raise the jacks of an order is to rename them
 raised-is : (i : ℕ) (o : Order) → renamed (raise i) o ≡ raisedOrder i o
 raised-is i (swap a b) = refl
 raised-is i (turn a b c) = refl
 
+-- different numbers stay different
 raise-apart : (i a b : ℕ) → a ≢ b → raise i a ≢ raise i b
 raise-apart i a b ne e = ne (raise-inj i a b e)
 
+-- a raised order is in shape for one jack more
 raised-shape : (n i : ℕ) (o : Order) → InShape n o → InShape (suc n) (raisedOrder i o)
 raised-shape n i (swap a b) s = omega (arith, raise-near i a, raise-near i b, raise-less i a b (s .1))
 raised-shape n i (turn a b c) s =
     omega (arith, raise-near i a, raise-near i b, raise-near i c, raise-less i a b (s .1), raise-less i a c (s .3), raise-apart i b c (s .5))
 
+-- and does not name jack i
 raised-free : (i : ℕ) (o : Order) → Each (λ a. i ≢ a) (raisedOrder i o)
 raised-free i (swap a b) = omega (arith, raise-near i a, raise-near i b)
 raised-free i (turn a b c) = omega (arith, raise-near i a, raise-near i b, raise-near i c)
-
-pub lower-among : (m i j : ℕ) → Among (suc m) i → Among (suc m) j → j ≢ i → Among m (lower i j)
-lower-among m i j hi hj ne = either (lower-cases i j) (λ c. omega arith) (λ c. omega arith)
 
 -- at the jack that jack u of the shorter pattern becomes
 from-B : (m i : ℕ) → Among (suc m) i → (o : Order) (p : List ℕ) → InShape m o → length p ≡ m → (u : ℕ) → Among m u
@@ -103,6 +106,7 @@ carry-B m i hi o p s long =
     (B-at n i p (omega arith) (omega arith) ∙ sym (B-at n i (carry o p) (omega arith) (omega arith))))
     (λ ni. rw (← raise-lower i j ni) (from-B m i hi o p s long (lower i j) (lower-among m i j hi (omega arith) ni)))))
 
+-- and so do several
 carryAll-B : (m i : ℕ) → Among (suc m) i → (os : List Order) (p : List ℕ) → AllInShape m os → length p ≡ m
     → carryAll (map (raisedOrder i) os) (stepB (suc (suc m)) i p) ≡ stepB (suc (suc m)) i (carryAll os p)
 unfolding carryAll
@@ -110,11 +114,13 @@ carryAll-B m i hi [] p s long = refl
 carryAll-B m i hi (o ∷ os) p s long =
     ap (carryAll (map (raisedOrder i) os)) (carry-B m i hi o p (s .0) long) ∙ carryAll-B m i hi os (carry o p) (s .1) (length-carry o p ∙ long)
 
+-- the orders of a raised move are its orders raised
 raised-orders : (i : ℕ) (v : Move) → orders (raised i v) ≡ map (raisedOrder i) (orders v)
 raised-orders i nothing = refl
 raised-orders i (one o) = refl
 raised-orders i (two a b c d) = refl
 
+-- a raised move is in the paper's form for one jack more
 raised-form : (n i : ℕ) (v : Move) → InForm n v → InForm (suc n) (raised i v)
 raised-form n i nothing f = tt
 raised-form n i (one o) f = raised-shape n i o f

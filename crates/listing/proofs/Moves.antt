@@ -13,8 +13,8 @@ use Rattle.listing.specs.Orders.{Order, swap, turn, source, carry, carry
 use Rattle.listing.specs.Orders.{Move, nothing, one, two, orders, moved, InForm, Leads, inverse}
 use Rattle.listing.proofs.Numbers.{either, is-same, is-cases}
 use Rattle.listing.proofs.Panels.{length-carry, length-carryAll, carries-to}
-use Rattle.listing.proofs.Sources.{by-swap}
-use Rattle.listing.proofs.Renamed.{Each, EachOf, plain, same-orders}
+use Rattle.listing.proofs.Sources.{by-swap, shape-each}
+use Rattle.listing.proofs.Renamed.{EachOf, plain, same-orders}
 
 -- ---- where a move leads, and back
 
@@ -55,11 +55,7 @@ orders-shaped n nothing f = tt
 orders-shaped n (one o) f = (f, tt)
 orders-shaped n (two a b c d) f = (f .0, (f .1, tt))
 
--- an order in shape names jacks of 1..n
-pub shape-each : (n : ℕ) (o : Order) → InShape n o → Each (Among n) o
-shape-each n (swap a b) s = omega arith
-shape-each n (turn a b c) s = omega arith
-
+-- orders in shape name jacks of 1..n
 pub shapes-each : (n : ℕ) (os : List Order) → AllInShape n os → EachOf (Among n) os
 shapes-each n [] s = tt
 shapes-each n (o ∷ os) s = (shape-each n o (s .0), shapes-each n os (s .1))
@@ -91,12 +87,14 @@ turn-swaps a b c p s =
 
 -- ---- at most four cords
 
+-- of x, y, z the ends differ only if two neighbours do
 one-by : (x y z : ℕ) → is x z 0 1 ≤ is x y 0 1 + is y z 0 1
 one-by x y z =
     either (is-cases x y 0 1)
     (λ c. omega (arith, ap (λ (u : ℕ). is u z 0 1) (c .0)))
     (λ c. either (is-cases x z 0 1) (λ d. omega arith) (λ d. omega arith))
 
+-- a panel differs nowhere from itself
 pub differing-same : (p : List ℕ) → differing p p ≡ 0
 unfolding differing is
 differing-same [] = refl
@@ -126,13 +124,18 @@ differing-swap (suc a) (suc b) p ha hb ne =
     rw (swap-stores a b p (omega arith) (omega arith) (omega arith))
     (omega (arith, differing-by p q (set q b (getD p a 0)) (length-set p a (getD p b 0)), differing-set p a (getD p b 0), differing-set q b (getD p a 0)))
 
+-- and two swaps at most four
 differing-swaps : (n a b c d : ℕ) (p : List ℕ) → length p ≡ n → Among n a → Among n b → a ≢ b → Among n c → Among n d → c ≢ d
     → differing p (carry (swap c d) (carry (swap a b) p)) ≤ 4
 differing-swaps n a b c d p long ha hb ab hc hd cd =
     let q : List ℕ = carry (swap a b) p in
     let same : length q ≡ length p = length-carry (swap a b) p in
-    omega (arith, differing-by p q (carry (swap c d) q) same, differing-swap a b p (omega arith) (omega arith) ab,
-    differing-swap c d q (omega arith) (omega arith) cd)
+    omega (
+      arith,
+      differing-by p q (carry (swap c d) q) same,
+      differing-swap a b p (omega arith) (omega arith) ab,
+      differing-swap c d q (omega arith) (omega arith) cd,
+    )
 
 four-moved : (n : ℕ) (v : Move) (p : List ℕ) → InForm n v → length p ≡ n → differing p (moved v p) ≤ 4
 unfolding carryAll

@@ -12,15 +12,11 @@ use Rattle.listing.specs.Pattern.{entry, tabulate}
 use Rattle.listing.specs.Orders.{Order, swap, turn, source, carry, carryAll}
 use Rattle.listing.proofs.Numbers.{either, same?, is-same, is-other}
 use Rattle.listing.proofs.Panels.{same-entries, entry-tabulate, length-tabulate, length-carry, entry-carry, length-carryAll}
-use Rattle.listing.proofs.Sources.{by-swap, by-turn}
+use Rattle.listing.proofs.Sources.{Each, source-each, source-unnamed}
 
--- ---- the jacks that an order names
+-- ---- names for the jacks of an order
 
--- P holds of each of them
-abbrev pub Each : (ℕ → Type 0) → Order → Type 0
-Each P (swap a b) = P a × P b
-Each P (turn a b c) = P a × P b × P c
-
+-- P holds of each jack that several orders name
 abbrev pub EachOf : (ℕ → Type 0) → List Order → Type 0
 EachOf P [] = Unit {0}
 EachOf P (o ∷ os) = Each P o × EachOf P os
@@ -30,17 +26,7 @@ abbrev pub renamed : (ℕ → ℕ) → Order → Order
 renamed f (swap a b) = swap (f a) (f b)
 renamed f (turn a b c) = turn (f a) (f b) (f c)
 
--- a source is a jack that the order names, or the jack itself
-pub source-each : (P : ℕ → Type 0) (o : Order) (j : ℕ) → Each P o → P j → P (source o j)
-source-each P (swap a b) j e h = by-swap P a b j (λ x. e .1) (λ x y. e .0) (λ x y. h)
-source-each P (turn a b c) j e h = by-turn P a b c j (λ x. e .1) (λ x y. e .2) (λ x y z. e .0) (λ x y z. h)
-
--- a jack that the order does not name is its own source
-pub source-unnamed : (o : Order) (j : ℕ) → Each (λ a. j ≢ a) o → source o j ≡ j
-unfolding source
-source-unnamed (swap a b) j e = is-other j a _ _ (e .0) ∙ is-other j b _ _ (e .1)
-source-unnamed (turn a b c) j e = is-other j a _ _ (e .0) ∙ is-other j b _ _ (e .1) ∙ is-other j c _ _ (e .2)
-
+-- a choice between names is the name of the choice
 is-renamed : (f : ℕ → ℕ) (j a x y : ℕ) → (f j ≡ f a → j ≡ a) → is (f j) (f a) (f x) (f y) ≡ f (is j a x y)
 is-renamed f j a x y inj =
     either (same? j a)
@@ -62,10 +48,12 @@ abbrev pub sources : List Order → ℕ → ℕ
 sources [] j = j
 sources (o ∷ os) j = source o (sources os j)
 
+-- it is a jack that the orders name, or the jack itself
 pub sources-each : (P : ℕ → Type 0) (os : List Order) (j : ℕ) → EachOf P os → P j → P (sources os j)
 sources-each P [] j e h = h
 sources-each P (o ∷ os) j e h = source-each P o (sources os j) (e .0) (sources-each P os j (e .1) h)
 
+-- each jack has the port of its source
 pub entry-carryAll : (os : List Order) (p : List ℕ) (j : ℕ) → EachOf (Among (length p)) os → Among (length p) j
     → entry (carryAll os p) j ≡ entry p (sources os j)
 unfolding carryAll
@@ -79,6 +67,7 @@ each-then : (P Q : ℕ → Type 0) (f : ℕ → ℕ) → ((a : ℕ) → P a → 
 each-then P Q f g (swap a b) e = (g a (e .0), g b (e .1))
 each-then P Q f g (turn a b c) e = (g a (e .0), g b (e .1), g c (e .2))
 
+-- and of each that several orders name
 each-of-then : (P Q : ℕ → Type 0) (f : ℕ → ℕ) → ((a : ℕ) → P a → Q (f a)) → (os : List Order) → EachOf P os → EachOf Q (map (renamed f) os)
 each-of-then P Q f g [] e = tt
 each-of-then P Q f g (o ∷ os) e = (each-then P Q f g o (e .0), each-of-then P Q f g os (e .1))
@@ -95,18 +84,21 @@ abbrev pub Different : ℕ → List ℕ → Type 0
 Different n [] = Unit {0}
 Different n (x ∷ w) = Among n x × Away x w × Different n w
 
+-- a jack away from the list is none of its entries
 away-entry : (x : ℕ) (w : List ℕ) → Away x w → (u : ℕ) → Among (length w) u → x ≢ entry w u
 away-entry x [] d u h = absurd (omega arith)
 away-entry x (y ∷ w) d zero h = absurd (omega arith)
 away-entry x (y ∷ w) d (suc zero) h = d .0
 away-entry x (y ∷ w) d (suc (suc u)) h = away-entry x w (d .1) (suc u) (omega arith)
 
+-- the entries of the list are jacks of 1..n
 entry-among : (n : ℕ) (w : List ℕ) → Different n w → (u : ℕ) → Among (length w) u → Among n (entry w u)
 entry-among n [] d u h = absurd (omega arith)
 entry-among n (x ∷ w) d zero h = absurd (omega arith)
 entry-among n (x ∷ w) d (suc zero) h = d .0
 entry-among n (x ∷ w) d (suc (suc u)) h = entry-among n w (d .2) (suc u) (omega arith)
 
+-- no jack stands twice in the list
 entry-apart : (n : ℕ) (w : List ℕ) → Different n w → (u v : ℕ) → Among (length w) u → Among (length w) v → entry w u ≡ entry w v → u ≡ v
 entry-apart n [] d u v hu hv e = absurd (omega arith)
 entry-apart n (x ∷ w) d zero v hu hv e = absurd (omega arith)
@@ -129,6 +121,7 @@ abbrev pub on : List ℕ → List Order → List Order
 on w os = map (renamed (entry w)) os
 
 module _ (n : ℕ) (w : List ℕ) (different : Different n w) where
+  -- the source of a name is the name of the source
   sources-on : (os : List Order) → EachOf (Among (length w)) os → (u : ℕ) → Among (length w) u → sources (on w os) (entry w u) ≡ entry w (sources os u)
   sources-on [] e u h = refl
   sources-on (o ∷ os) e u h =
@@ -136,6 +129,7 @@ module _ (n : ℕ) (w : List ℕ) (different : Different n w) where
       ap (source (renamed (entry w) o)) (sources-on os (e .1) u h)
       ∙ source-renamed (Among (length w)) (entry w) o (sources os u) (λ a ha. entry-apart n w different (sources os u) a s ha) (e .0)
 
+  -- a jack that is no name is its own source
   sources-away : (os : List Order) → EachOf (Among (length w)) os → (j : ℕ) → Away j w → sources (on w os) j ≡ j
   sources-away [] e j d = refl
   sources-away (o ∷ os) e j d =
@@ -158,6 +152,7 @@ module _ (n : ℕ) (w : List ℕ) (different : Different n w) where
 unfoldable pub plain : ℕ → List ℕ
 plain m = tabulate m (λ j. j)
 
+-- after orders, a jack of the plain panel shows its own source
 entry-plain : (m : ℕ) (os : List Order) → EachOf (Among m) os → (u : ℕ) → Among m u → entry (carryAll os (plain m)) u ≡ sources os u
 unfolding plain
 entry-plain m os e u h =

@@ -1,15 +1,14 @@
 -- The sources of an order: the jack whose port each jack gets. What holds of every order in shape is proved here by the jacks that it names.
 -- Assumes nothing.
-use mathlib.Core.Path.{_≡_, refl, sym, ap, _∙_, subst}
+use mathlib.Core.Path.{_≡_, refl, sym, _∙_}
 use mathlib.Core.Logic.{_≢_}
 use mathlib.Core.List.{List}
-use Prim.Native.Nat.{ℕ, zero, suc, _≤_, _<_}
+use Prim.Native.Nat.{ℕ, _<_}
 use native.Mathlib.Omega.{arith}
-use lib.ListN.{length}
 use Rattle.listing.specs.Numbers.{Among, is}
 use Rattle.listing.specs.Pattern.{entry, Permutation}
 use Rattle.listing.specs.Orders.{Order, swap, turn, source, carry, InShape}
-use Rattle.listing.proofs.Numbers.{either, is-cases}
+use Rattle.listing.proofs.Numbers.{either, is-same, is-other, is-cases}
 use Rattle.listing.proofs.Panels.{length-carry, entry-carry}
 
 -- ---- what holds of a source, jack by jack
@@ -27,17 +26,56 @@ unfolding source
 by-turn P a b c j at-a at-b at-c else =
     by-is P j a b (is j b c (is j c a j)) at-a (λ na. by-is P j b c (is j c a j) (at-b na) (λ nb. by-is P j c a j (at-c na nb) (else na nb)))
 
+-- ---- the jacks that an order names
+
+-- P holds of each of them
+abbrev pub Each : (ℕ → Type 0) → Order → Type 0
+Each P (swap a b) = P a × P b
+Each P (turn a b c) = P a × P b × P c
+
+-- a source is a jack that the order names, or the jack itself
+pub source-each : (P : ℕ → Type 0) (o : Order) (j : ℕ) → Each P o → P j → P (source o j)
+source-each P (swap a b) j e h = by-swap P a b j (λ x. e .1) (λ x y. e .0) (λ x y. h)
+source-each P (turn a b c) j e h = by-turn P a b c j (λ x. e .1) (λ x y. e .2) (λ x y z. e .0) (λ x y z. h)
+
+-- a jack that the order does not name is its own source
+pub source-unnamed : (o : Order) (j : ℕ) → Each (λ a. j ≢ a) o → source o j ≡ j
+unfolding source
+source-unnamed (swap a b) j e = is-other j a _ _ (e .0) ∙ is-other j b _ _ (e .1)
+source-unnamed (turn a b c) j e = is-other j a _ _ (e .0) ∙ is-other j b _ _ (e .1) ∙ is-other j c _ _ (e .2)
+
+-- the first and the second jack of a swap, and of a turn
+pub swap-first : (a b : ℕ) → source (swap a b) a ≡ b
+unfolding source
+swap-first a b = is-same a a b _ refl
+
+pub swap-second : (a b : ℕ) → a < b → source (swap a b) b ≡ a
+unfolding source
+swap-second a b h = is-other b a b _ (omega arith) ∙ is-same b b a _ refl
+
+pub turn-first : (a b c : ℕ) → source (turn a b c) a ≡ b
+unfolding source
+turn-first a b c = is-same a a b _ refl
+
+pub turn-second : (a b c : ℕ) → a < b → source (turn a b c) b ≡ c
+unfolding source
+turn-second a b c h = is-other b a b _ (omega arith) ∙ is-same b b c _ refl
+
 -- ---- an order in shape for n jacks
+
+-- it names jacks of 1..n
+pub shape-each : (n : ℕ) (o : Order) → InShape n o → Each (Among n) o
+shape-each n (swap a b) s = omega arith
+shape-each n (turn a b c) s = omega arith
 
 -- the sources of jacks 1..n are among them
 pub source-among : (n : ℕ) (o : Order) → InShape n o → (j : ℕ) → Among n j → Among n (source o j)
-source-among n (swap a b) s j h = by-swap (Among n) a b j (λ e. omega arith) (λ x e. omega arith) (λ x y. h)
-source-among n (turn a b c) s j h = by-turn (Among n) a b c j (λ e. omega arith) (λ x e. omega arith) (λ x y e. omega arith) (λ x y z. h)
+source-among n o s j h = source-each (Among n) o j (shape-each n o s) h
 
 -- a jack past n is its own source
 pub source-past : (n : ℕ) (o : Order) → InShape n o → (j : ℕ) → n < j → source o j ≡ j
-source-past n (swap a b) s j h = by-swap (λ x. x ≡ j) a b j (λ e. omega arith) (λ x e. omega arith) (λ x y. refl)
-source-past n (turn a b c) s j h = by-turn (λ x. x ≡ j) a b c j (λ e. omega arith) (λ x e. omega arith) (λ x y e. omega arith) (λ x y z. refl)
+source-past n (swap a b) s j h = source-unnamed (swap a b) j (omega arith)
+source-past n (turn a b c) s j h = source-unnamed (turn a b c) j (omega arith)
 
 -- no two jacks have one source
 pub source-inj : (n : ℕ) (o : Order) → InShape n o → (j k : ℕ) → source o j ≡ source o k → j ≡ k
