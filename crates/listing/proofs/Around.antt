@@ -1,16 +1,14 @@
 -- Laws of the signed step: (rank + k) modulo the count is between 0 and count - 1, a whole round changes nothing, and these two determine it.
 -- One step on is the next rank, one step back the previous, and two steps after each other are their sum.
 -- Assumes nothing.
-use mathlib.Core.Path.{_≡_, refl, sym, ap, _∙_, subst}
-use mathlib.Core.Logic.{_≢_, _⊎_, inl, inr}
-use mathlib.Core.Bool.{cond}
+use mathlib.Core.Path.{_≡_, refl, sym, ap, _∙_}
+use mathlib.Core.Logic.{_⊎_, inl, inr}
 use Prim.Native.Nat.{ℕ, zero, suc, _+_, _*_, _-_, _/_, _%_, _≤_, _<_}
 use native.Mathlib.Nat.{mod-lt, mod-eq-of-lt, add-mod-right, mod-eq-sub-mod, div-add-mod', add-mod-mod}
 use native.Mathlib.Omega.{arith}
-use lib.Dec.{ltb}
 use lib.IntN.{ℤ, pos, negsuc, _+ℤ_, +ℤ-assoc, +ℤ-comm, +ℤ-idr}
 use borrow.Author.Tests.{lt-ltb, le-ltb}
-use Rattle.listing.specs.Numbers.{is, before}
+use Rattle.listing.specs.Numbers.{before}
 use Rattle.listing.specs.Count.{count}
 use Rattle.listing.specs.Rank.{fromEnd}
 use Rattle.listing.specs.Neighbours.{nextRank, previousRank}
@@ -65,14 +63,16 @@ unfolding modulo
 rest-away c h (pos k) = (k / c, inr (ap pos (sym (omega (arith, div-add-mod' k c)))))
 rest-away c h (negsuc k) =
     let more : suc k ≤ suc (k / c) * c = omega (arith, div-add-mod' k c, mod-lt k h) in
-    (suc (k / c), inl (ap pos (omega (arith, div-add-mod' k c, mod-lt k h)) ∙ sym (+ℤ-comm (negsuc k) (pos (suc (k / c) * c)) ∙ minus-more (suc (k / c) * c) k more)))
+    let there : negsuc k +ℤ pos (suc (k / c) * c) ≡ pos (suc (k / c) * c - suc k) =
+    +ℤ-comm (negsuc k) (pos (suc (k / c) * c)) ∙ minus-more (suc (k / c) * c) k more in
+    (suc (k / c), inl (ap pos (omega (arith, div-add-mod' k c, mod-lt k h)) ∙ sym there))
 
 -- adding to the rest is adding to the number
 pub modulo-plus : (c : ℕ) → 0 < c → (z l : ℤ) → modulo (pos (modulo z c) +ℤ l) c ≡ modulo (z +ℤ l) c
 modulo-plus c h z l =
     let w = rest-away c h z in
     let swapped : (x : ℤ) → x +ℤ pos (w .0 * c) +ℤ l ≡ x +ℤ l +ℤ pos (w .0 * c) = λ x.
-        +ℤ-assoc x (pos (w .0 * c)) l ∙ ap (λ (y : ℤ). x +ℤ y) (+ℤ-comm (pos (w .0 * c)) l) ∙ sym (+ℤ-assoc x l (pos (w .0 * c))) in
+    +ℤ-assoc x (pos (w .0 * c)) l ∙ ap (λ (y : ℤ). x +ℤ y) (+ℤ-comm (pos (w .0 * c)) l) ∙ sym (+ℤ-assoc x l (pos (w .0 * c))) in
     either (w .1)
     (λ e. ap (λ (y : ℤ). modulo (y +ℤ l) c) e ∙ ap (λ (y : ℤ). modulo y c) (swapped z) ∙ modulo-rounds c h (w .0) (z +ℤ l))
     (λ e.

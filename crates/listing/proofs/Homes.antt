@@ -11,11 +11,10 @@ use Rattle.listing.specs.Pattern.{entry, tabulate}
 use Rattle.listing.specs.Steps.{stepA, stepB}
 use Rattle.listing.specs.Ends.{home}
 use Rattle.listing.specs.Orders.{swap, turn, carry}
-use Rattle.listing.proofs.Numbers.{either, is-same, is-other, trade-cases, raise-cases, raise-low, raise-high, raise-lower}
+use Rattle.listing.proofs.Numbers.{either, is-same, is-other, trade-cases, raise-cases, raise-low, raise-high, raise-lower, lower-among}
 use Rattle.listing.proofs.Panels.{length-tabulate, entry-tabulate, carries-to}
 use Rattle.listing.proofs.Sources.{by-swap, by-turn}
 use Rattle.listing.proofs.StepEntries.{length-A, A-kept, A-held, A-last, length-B, B-at, B-last, B-raised}
-use Rattle.listing.proofs.StepB.{lower-among}
 use Rattle.listing.proofs.EndEntries.{home-low, home-top, home-cases}
 
 -- ---- who holds a port

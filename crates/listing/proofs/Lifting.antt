@@ -11,12 +11,11 @@ use Rattle.listing.specs.Pattern.{entry}
 use Rattle.listing.specs.Steps.{stepA, stepB}
 use Rattle.listing.specs.Orders.{Order, swap, turn, source, carry, carryAll, InShape, AllInShape}
 use Rattle.listing.specs.Orders.{Move, nothing, one, two, orders, InForm, Leads, raisedOrder, raised}
-use Rattle.listing.proofs.Numbers.{either, same?, raise-near, raise-less, raise-inj, raise-lower}
+use Rattle.listing.proofs.Numbers.{either, same?, raise-near, raise-less, raise-inj, raise-lower, raise-apart, lower-among}
 use Rattle.listing.proofs.Panels.{length-carry, entry-carry, carries-to}
 use Rattle.listing.proofs.Sources.{Each, source-unnamed, shape-each, source-among, source-past}
 use Rattle.listing.proofs.Renamed.{renamed, source-renamed}
 use Rattle.listing.proofs.Moves.{orders-shaped}
-use Rattle.listing.proofs.StepB.{lower-among}
 use Rattle.listing.proofs.StepEntries.{length-A, A-other, A-last, length-B, B-at, B-last, B-raised}
 
 -- ---- A(i)
@@ -66,9 +65,6 @@ raised-is i (swap a b) = refl
 raised-is i (turn a b c) = refl
 
 -- different numbers stay different
-raise-apart : (i a b : ℕ) → a ≢ b → raise i a ≢ raise i b
-raise-apart i a b ne e = ne (raise-inj i a b e)
-
 -- a raised order is in shape for one jack more
 raised-shape : (n i : ℕ) (o : Order) → InShape n o → InShape (suc n) (raisedOrder i o)
 raised-shape n i (swap a b) s = omega (arith, raise-near i a, raise-near i b, raise-less i a b (s .1))

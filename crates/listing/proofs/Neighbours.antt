@@ -1,10 +1,9 @@
 -- Round the circuit: at each rank the one move `nextMove` leads to the pattern of the next rank, and `previousMove` to that of the previous.
 -- A block is looked at as an odd one: an even one is the same read backwards, with the moves inverted.
 -- Assumes nothing.
-use mathlib.Core.Path.{_≡_, refl, sym, ap, _∙_, subst}
+use mathlib.Core.Path.{_≡_, refl, sym, ap, _∙_}
 use mathlib.Core.Logic.{_≢_}
-use mathlib.Core.Bool.{Bool, true, false}
-use mathlib.Core.List.{List}
+use mathlib.Core.Bool.{true, false}
 use Prim.Native.Nat.{ℕ, zero, suc, _+_, _*_, _-_, _/_, _%_, _≤_, _<_}
 use native.Mathlib.Nat.{mod-lt, div-add-mod', mul-le-mul-right}
 use native.Mathlib.Omega.{arith}
@@ -15,16 +14,17 @@ use Rattle.listing.specs.Count.{count}
 use Rattle.listing.specs.Steps.{byA, byB, stepA, stepB}
 use Rattle.listing.specs.Listing.{joined, block, blocks, listing, at}
 use Rattle.listing.specs.Rank.{fromEnd, perBlock, turned, place}
-use Rattle.listing.specs.Ends.{home, last}
+use Rattle.listing.specs.Ends.{home}
 use Rattle.listing.specs.Orders.{Move, one, turn, source, carry, carryAll, Leads}
-use Rattle.listing.specs.Joins.{hop, closing}
+use Rattle.listing.specs.Joins.{hop}
 use Rattle.listing.specs.Neighbours.{nextRank, previousRank, inside, onFrom, nextMove, previousMove}
 use Rattle.listing.proofs.Numbers.{either, below?, same?, test, suc-before, is-same, is-other, odd-next}
 use Rattle.listing.proofs.Counts.{count-blocks, count-pos, count-2}
 use Rattle.listing.proofs.Places.{at-place}
-use Rattle.listing.proofs.Ranks.{perBlock-pos, block-among}
+use Rattle.listing.proofs.Ranks.{perBlock-pos, block-among, at-derangement}
 use Rattle.listing.proofs.Ends.{at-home, at-last}
 use Rattle.listing.proofs.Moves.{leads-back}
+use Rattle.listing.proofs.OneMove.{one-move}
 use Rattle.listing.proofs.Lifting.{leads-A, leads-B}
 use Rattle.listing.proofs.Hops.{hopA-leads, hopB-leads, closing-leads}
 use Rattle.listing.proofs.Joins.{join-leads}
@@ -124,7 +124,8 @@ module _ (x : ℕ) (one-shorter : Onward (suc (suc (suc x)))) (two-shorter : Onw
       let here : r ≡ spot i 0 = rw o (omega arith) in
       let there : suc r ≡ spot (suc i) 0 = rw turn (omega arith) in
       let from : at n r ≡ stepA n i (home (suc m)) = ap (at n) here ∙ spot-A i 0 (omega arith) some-A ∙ ap (stepA n i) (at-home (suc x)) in
-      let to : at n (suc r) ≡ stepA n (suc i) (home (suc m)) = ap (at n) there ∙ spot-A (suc i) 0 (omega arith) some-A ∙ ap (stepA n (suc i)) (at-home (suc x)) in
+      let to : at n (suc r) ≡ stepA n (suc i) (home (suc m)) =
+      ap (at n) there ∙ spot-A (suc i) 0 (omega arith) some-A ∙ ap (stepA n (suc i)) (at-home (suc x)) in
       rw (o, from, to) (hopA-leads m i (omega arith) fits))
 
   -- ---- from each place of each block
@@ -251,3 +252,15 @@ previous-leads m r h =
     let n = suc (suc m) in
     let on = next-leads m (previousRank n r) (previous-below n r h) in
     leads-back (rw (next-previous n r h) at on)
+
+-- ---- and no other move
+
+-- a move in the paper's form that leads to the next pattern is `nextMove`
+pub only-next : (m r : ℕ) (v : Move) → r < count (suc (suc m)) → Leads (suc (suc m)) v (at (suc (suc m)) r) (at (suc (suc m)) (nextRank (suc (suc m)) r))
+    → v ≡ nextMove (suc (suc m)) r
+only-next m r v h l = one-move (at-derangement (suc (suc m)) r h .permutation) l (next-leads m r h)
+
+-- and one that leads to the previous is `previousMove`
+pub only-previous : (m r : ℕ) (v : Move) → r < count (suc (suc m))
+    → Leads (suc (suc m)) v (at (suc (suc m)) r) (at (suc (suc m)) (previousRank (suc (suc m)) r)) → v ≡ previousMove (suc (suc m)) r
+only-previous m r v h l = one-move (at-derangement (suc (suc m)) r h .permutation) l (previous-leads m r h)

@@ -106,6 +106,21 @@ raise-inj i a b e = sym (lower-raise i a) ∙ ap (lower i) e ∙ lower-raise i b
 pub lower-inj : (i a b : ℕ) → a ≢ i → b ≢ i → lower i a ≡ lower i b → a ≡ b
 lower-inj i a b na nb e = sym (raise-lower i a na) ∙ ap (raise i) e ∙ raise-lower i b nb
 
+-- two different values are raised to different ones
+pub raise-apart : (i a b : ℕ) → a ≢ b → raise i a ≢ raise i b
+raise-apart i a b ne e = ne (raise-inj i a b e)
+
+-- ---- room for i among 1..m, and back
+
+pub raise-among : (m i k : ℕ) → Among m k → Among (suc m) (raise i k)
+raise-among m i k h = omega (arith, raise-near i k)
+
+pub lower-among : (m i j : ℕ) → Among (suc m) i → Among (suc m) j → j ≢ i → Among m (lower i j)
+lower-among m i j hi hj d = either (lower-cases i j) (λ c. omega arith) (λ c. omega arith)
+
+pub among-raised : (m i v : ℕ) → Among (suc m) i → Among (suc m) (raise i v) → Among m v
+among-raised m i v hi hv = either (raise-cases i v) (λ c. omega arith) (λ c. omega arith)
+
 -- ---- odd and even
 
 not-twice : (b : Bool) → not (not b) ≡ b

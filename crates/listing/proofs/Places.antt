@@ -4,12 +4,12 @@
 use mathlib.Core.Path.{_≡_, refl, sym, ap, ap₂, _∙_}
 use mathlib.Core.Bool.{Bool, true, false}
 use mathlib.Core.List.{List, [], _∷_, _++_, map, reverse, reverse-cons, reverse-append, reverse-reverse}
-use Prim.Native.Nat.{ℕ, zero, suc, _+_, _*_, _-_, _≤_, _<_}
+use Prim.Native.Nat.{ℕ, zero, suc, _+_, _*_, _<_}
 use native.Mathlib.Nat.{zero-mul, mul-le-mul-right, not-suc-le-zero, le-of-suc-le-suc}
 use native.Mathlib.Omega.{arith}
 use lib.ListN.{length, getD, length-append, length-map, length-reverse, List·getD-append}
 use lib.Seq.{getD-append-seam, getD-append-add}
-use Rattle.listing.specs.Numbers.{Among, before, odd}
+use Rattle.listing.specs.Numbers.{Among, odd}
 use Rattle.listing.specs.Count.{count}
 use Rattle.listing.specs.Steps.{Way, byA, byB, shorter, step, stepA, stepB}
 use Rattle.listing.specs.Listing.{joined, block, blocks, listing, at}
@@ -134,10 +134,11 @@ in-block m q u hq hu =
     let la : length a ≡ count (suc m) = length-listing (suc m) in
     let lb : length b ≡ count m = length-listing m in
     let hu′ : u < length a + length b = omega arith in
+    let ma : length (map (stepA n (suc q)) a) ≡ length a = length-map a (stepA n (suc q)) in
+    let mb : length (map (stepB n (suc q)) b) ≡ length b = length-map b (stepB n (suc q)) in
     rw (← la, ← lb)
     (blocks-at n a b (suc m) q (turned (odd (suc q)) (length a + length b) u) hq (turned-below (odd (suc q)) (length a + length b) u hu′)
-    ∙ (rw (length-map a (stepA n (suc q)), length-map b (stepB n (suc q))) at
-    (joined-turned (map (stepA n (suc q)) a) (map (stepB n (suc q)) b) (odd (suc q)) u (rw (length-map a (stepA n (suc q)), length-map b (stepB n (suc q))) hu′))))
+    ∙ (rw (ma, mb) at (joined-turned (map (stepA n (suc q)) a) (map (stepB n (suc q)) b) (odd (suc q)) u (rw (ma, mb) hu′))))
 
 -- The rule of the list, place by place: the pattern made by the way w, with i, from the shorter one of rank s
 pub at-place : (w : Way) (m i s : ℕ) → Among (suc m) i → s < count (shorter w (suc (suc m)))

@@ -1,13 +1,11 @@
 -- Every pattern of 2 ports or more comes from exactly one shorter pattern, by exactly one of A and B. What the two steps share is said here once, by the way.
 -- Throughout the longer pattern has m + 2 ports.
 -- Assumes nothing.
-use mathlib.Core.Path.{_≡_, refl, sym, ap, _∙_, subst}
+use mathlib.Core.Path.{_≡_, refl, sym, ap, _∙_}
 use mathlib.Core.Logic.{_≢_}
-use mathlib.Core.Bool.{cond}
 use mathlib.Core.List.{List}
 use Prim.Native.Nat.{ℕ, zero, suc}
 use native.Mathlib.Omega.{arith}
-use lib.Dec.{eqb}
 use borrow.Author.Tests.{eq-eqb, ne-eqb}
 use Rattle.listing.specs.Numbers.{Among}
 use Rattle.listing.specs.Pattern.{entry, Derangement}
@@ -104,7 +102,8 @@ pub made-once : (m : ℕ) (v w : Way) (i k : ℕ) (t u : List ℕ) → Among (su
     → step v (suc (suc m)) i t ≡ step w (suc (suc m)) k u → (v ≡ w) × (i ≡ k) × (t ≡ u)
 made-once m v w i k t u fits fits′ D E e =
     let n = suc (suc m) in
-    let same : v ≡ w = sym (way-step v m i t fits D) ∙ ap (way n) e ∙ way-step w m k u fits′ E in
-    (same,
-    sym (step-end v m i t fits D) ∙ ap (λ (p : List ℕ). entry p n) e ∙ step-end w m k u fits′ E,
-    sym (back-step v m i t fits D) ∙ ap (back v n) e ∙ ap (λ (x : Way). back x n (step w n k u)) same ∙ back-step w m k u fits′ E)
+    let same : v ≡ w = sym (way-step v m i t fits D) ∙ ap (way n) e ∙ way-step w m k u fits′ E in (
+      same,
+      sym (step-end v m i t fits D) ∙ ap (λ (p : List ℕ). entry p n) e ∙ step-end w m k u fits′ E,
+      sym (back-step v m i t fits D) ∙ ap (back v n) e ∙ ap (λ (x : Way). back x n (step w n k u)) same ∙ back-step w m k u fits′ E,
+    )

@@ -1,29 +1,17 @@
 -- The step B(i) and the step back: what stands at each jack, that patterns go to patterns, and that each undoes the other.
 -- Throughout t has m ports and the longer pattern m + 2. B(i) renames jacks and ports alike by `raise i`, which leaves jack i and port i free.
 -- Assumes nothing.
-use mathlib.Core.Path.{_≡_, refl, sym, ap, _∙_}
-use mathlib.Core.Logic.{_≢_, _⊎_, inl, inr}
+use mathlib.Core.Path.{_≡_, sym, ap, _∙_}
+use mathlib.Core.Logic.{_≢_}
 use mathlib.Core.List.{List}
-use Prim.Native.Nat.{ℕ, zero, suc, _≤_, _<_}
+use Prim.Native.Nat.{ℕ, suc}
 use native.Mathlib.Omega.{arith}
-use lib.ListN.{length}
 use Rattle.listing.specs.Numbers.{Among, is, raise, lower}
 use Rattle.listing.specs.Pattern.{entry, Permutation, Derangement}
 use Rattle.listing.specs.Steps.{stepB, unB}
-use Rattle.listing.proofs.Numbers.{either, is-cases, raise-cases, lower-cases, raise-near, raise-lower, lower-raise, raise-inj}
+use Rattle.listing.proofs.Numbers.{either, is-cases, raise-near, raise-lower, lower-raise, raise-inj, raise-among, lower-among, among-raised}
 use Rattle.listing.proofs.Panels.{is-tabulated, length-tabulate, entry-tabulate}
 use Rattle.listing.proofs.StepEntries.{length-B, B-last, B-raised}
-
--- ---- room for i among 1..m, and back
-
-pub raise-among : (m i k : ℕ) → Among m k → Among (suc m) (raise i k)
-raise-among m i k h = omega (arith, raise-near i k)
-
-pub lower-among : (m i j : ℕ) → Among (suc m) i → Among (suc m) j → j ≢ i → Among m (lower i j)
-lower-among m i j hi hj d = either (lower-cases i j) (λ c. omega arith) (λ c. omega arith)
-
-pub among-raised : (m i v : ℕ) → Among (suc m) i → Among (suc m) (raise i v) → Among m v
-among-raised m i v hi hv = either (raise-cases i v) (λ c. omega arith) (λ c. omega arith)
 
 -- ---- B(i) at each jack
 

@@ -1,8 +1,7 @@
 -- `unrank`, by recursion on the number of ports, gives the pattern that the list has at the rank.
 -- Assumes nothing.
-use mathlib.Core.Path.{_≡_, refl, sym, ap, _∙_}
-use mathlib.Core.List.{List, []}
-use Prim.Native.Nat.{ℕ, zero, suc, _+_, _*_, _-_, _/_, _%_, _≤_, _<_}
+use mathlib.Core.Path.{_≡_, sym, ap, _∙_}
+use Prim.Native.Nat.{ℕ, suc, _+_, _*_, _-_, _/_, _%_, _<_}
 use native.Mathlib.Nat.{not-suc-le-zero, mod-lt, div-add-mod'}
 use native.Mathlib.Omega.{arith}
 use borrow.Author.Tests.{lt-ltb, le-ltb}
@@ -29,7 +28,8 @@ unrank-at =
     let low : r % size < size = mod-lt r (perBlock-pos m r h) in
     let u = turned (odd i) size (r % size) in
     let inside : u < size = turned-below (odd i) size (r % size) low in
-    let there : r / size * size + turned (odd i) size u ≡ r = ap (λ (x : ℕ). r / size * size + x) (turned-twice (odd i) size (r % size) low) ∙ div-add-mod' r size in
+    let there : r / size * size + turned (odd i) size u ≡ r =
+    ap (λ (x : ℕ). r / size * size + x) (turned-twice (odd i) size (r % size) low) ∙ div-add-mod' r size in
     either (below? u (count (suc m)))
     (λ b.
     rw (lt-ltb u (count (suc m)) b)

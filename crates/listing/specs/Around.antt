@@ -1,6 +1,6 @@
 -- The signed step round the circuit (the paper, 'The list': a signed step answers (rank + k) modulo the count).
 -- Assumes nothing.
-use Prim.Native.Nat.{ℕ, _-_, _%_}
+use Prim.Native.Nat.{ℕ, _%_}
 use lib.IntN.{ℤ, pos, negsuc, _+ℤ_}
 use Rattle.listing.specs.Rank.{fromEnd}
 

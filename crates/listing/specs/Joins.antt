@@ -1,8 +1,8 @@
 -- The moves between the parts of the list for n, by n and i: relations (3), (5), (7) and (8) of document 000, and the step from the last pattern to the
 -- first. Relations (4), (6) and (9) are these read backwards. A cycle ⟨x,y,z⟩ of the document, multiplied on positions, is the turn x,y,z.
 -- Assumes nothing.
-use Prim.Native.Nat.{ℕ, suc, _+_, _-_}
-use mathlib.Core.Bool.{Bool, not, cond}
+use Prim.Native.Nat.{ℕ, _+_, _-_}
+use mathlib.Core.Bool.{cond}
 use lib.Dec.{eqb, ltb}
 use Rattle.listing.specs.Numbers.{odd}
 use Rattle.listing.specs.Orders.{Move, nothing, one, two, swap, turn}

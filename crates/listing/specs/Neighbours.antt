@@ -1,7 +1,7 @@
 -- Next and previous round the circuit: the rank there, and the move that leads there in closed form.
 -- Assumes nothing.
 use Prim.Native.Nat.{ℕ, zero, suc, _-_, _/_, _%_}
-use mathlib.Core.Bool.{Bool, true, false, cond}
+use mathlib.Core.Bool.{cond}
 use lib.Dec.{eqb, ltb}
 use Rattle.listing.specs.Numbers.{before, is, odd}
 use Rattle.listing.specs.Count.{count}

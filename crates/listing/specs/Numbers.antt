@@ -1,7 +1,7 @@
 -- Numbers from 1 to n, and the few ways in which the list changes one of them.
 -- Assumes nothing.
 use Prim.Native.Nat.{ℕ, zero, suc, _≤_}
-use mathlib.Core.Bool.{Bool, true, false, not, cond}
+use mathlib.Core.Bool.{Bool, false, not, cond}
 use lib.Dec.{eqb, leb, ltb}
 
 -- x is one of 1, 2, .., n: a jack or a port of a panel with n of each

@@ -1,6 +1,6 @@
 -- Movement orders and moves: what they are, what they do to a panel, and the paper's form of each (the paper, 'The list' and 'Order lines').
 -- Assumes nothing.
-use Prim.Native.Nat.{ℕ, zero, suc, _≤_, _<_}
+use Prim.Native.Nat.{ℕ, _≤_, _<_}
 use mathlib.Core.Path.{_≡_}
 use mathlib.Core.Logic.{_≢_}
 use mathlib.Core.List.{List, [], _∷_}

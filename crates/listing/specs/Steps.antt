@@ -1,7 +1,7 @@
 -- The two ways to make a pattern from a shorter one, and the ways back (Definition 1 and Remark 2 of document 000).
 -- Assumes nothing.
-use Prim.Native.Nat.{ℕ, zero, suc}
-use mathlib.Core.Bool.{Bool, true, false, cond}
+use Prim.Native.Nat.{ℕ}
+use mathlib.Core.Bool.{cond}
 use mathlib.Core.List.{List}
 use lib.Dec.{eqb}
 use Rattle.listing.specs.Numbers.{before, is, trade, raise, lower}
