@@ -22,3 +22,4 @@ pub mod Ends
 pub mod Neighbours
 pub mod Around
 pub mod Limits
+pub mod Reading

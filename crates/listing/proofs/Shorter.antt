@@ -71,30 +71,31 @@ pub record Made (m : ℕ) (p : List ℕ) : Type 0 where
   pub pattern : Derangement (shorter by (suc (suc m))) from
   pub is : p ≡ step by (suc (suc m)) i from
 
+-- the entry at the last jack is an i of 1 to n - 1
+pub end-fits : (m : ℕ) (p : List ℕ) → Derangement (suc (suc m)) p → Among (suc m) (entry p (suc (suc m)))
+end-fits m p D = omega (arith, D .permutation .ports (suc (suc m)) (omega arith), D .moved (suc (suc m)) (omega arith))
+
+-- the step back along the way that p came leads to a pattern, from which the step itself leads to p
+pub way-back : (m : ℕ) (p : List ℕ) → Derangement (suc (suc m)) p
+    → Derangement (shorter (way (suc (suc m)) p) (suc (suc m))) (back (way (suc (suc m)) p) (suc (suc m)) p)
+    × (p ≡ step (way (suc (suc m)) p) (suc (suc m)) (entry p (suc (suc m))) (back (way (suc (suc m)) p) (suc (suc m)) p))
+way-back m p D =
+    let i = entry p (suc (suc m)) in
+    either (same? (entry p i) (suc (suc m)))
+    (λ held. rw (way-B m p i refl held) (unB-derangement m i p D refl held, sym (stepB-unB m i p D refl held)))
+    (λ free. rw (way-A m p i refl free) (unA-derangement (suc m) i p D refl free, sym (stepA-unA (suc m) i p D refl free)))
+
 -- with i the entry at jack n: by B if jack i holds n, else by A
 pub made : (m : ℕ) (p : List ℕ) → Derangement (suc (suc m)) p → Made m p
 made m p D =
-    let i = entry p (suc (suc m)) in
-    let fits : Among (suc m) i = omega (arith, D .permutation .ports (suc (suc m)) (omega arith), D .moved (suc (suc m)) (omega arith)) in
-    either (same? (entry p i) (suc (suc m)))
-    (λ held.
     record {
-      by = byB;
-      i = i;
-      from = back byB (suc (suc m)) p;
-      fits = fits;
-      pattern = unB-derangement m i p D refl held;
-      is = sym (stepB-unB m i p D refl held);
-    })
-    (λ free.
-    record {
-      by = byA;
-      i = i;
-      from = back byA (suc (suc m)) p;
-      fits = fits;
-      pattern = unA-derangement (suc m) i p D refl free;
-      is = sym (stepA-unA (suc m) i p D refl free);
-    })
+      by = way (suc (suc m)) p;
+      i = entry p (suc (suc m));
+      from = back (way (suc (suc m)) p) (suc (suc m)) p;
+      fits = end-fits m p D;
+      pattern = way-back m p D .0;
+      is = way-back m p D .1;
+    }
 
 -- and in one way only: two that make the same pattern are the same way, with the same i, from the same shorter pattern
 pub made-once : (m : ℕ) (v w : Way) (i k : ℕ) (t u : List ℕ) → Among (suc m) i → Among (suc m) k

@@ -4,6 +4,7 @@ pub mod Count
 pub mod Steps
 pub mod Listing
 pub mod Rank
+pub mod Reading
 pub mod Ends
 pub mod Orders
 pub mod Joins

@@ -1,0 +1,96 @@
+-- Two words that mean the same are the same word. Each meaning can be read back, so it is met by one word only.
+-- Assumes nothing.
+use mathlib.Core.Path.{_≡_, refl, sym, ap, _∙_}
+use mathlib.Core.List.{List, [], _∷_}
+use Prim.Native.Nat.{ℕ}
+use lib.ListN.{getD}
+use Rattle.listing.specs.Orders.{swap, turn, nothing, one, two}
+use Rattle.listing.specs.Orders as list
+use Rattle.words.specs.Told.{Spot, nowhere, atJack, atLine}
+use Rattle.words.specs.Meaning.{orderOf, moveOf, numberOf, spotOf, refusalOf}
+use Rattle.words.specs.declared.Jack.{Jack}
+use Rattle.words.specs.declared.Order.{Order}
+use Rattle.words.specs.declared.Order.the-variants.{Swap, Turn}
+use Rattle.words.specs.declared.Move.{Move}
+use Rattle.words.specs.declared.Move.the-variants.{Nothing, One, Two}
+use Rattle.words.specs.declared.Reason.{Reason}
+use Rattle.words.specs.declared.Reason.the-variants.{Ports, Room, Outside, Repeated, OwnJack, Rank, Key, Number, Legs, Run, Ended, NoMark, MarkStands, Kind, Unfit, Errors, Shape}
+use Rattle.words.specs.declared.Place.{Place}
+use Rattle.words.specs.declared.Place.the-variants.{Nowhere, AtJack, AtLine}
+use Rattle.words.specs.declared.Refusal.{Refusal}
+
+-- ---- reading a meaning back
+
+jack : ℕ → Jack
+jack j = record { 0 = j }
+
+abbrev order : list.Order → Order
+order (swap a b) = Swap (jack a) (jack b)
+order (turn a b c) = Turn (jack a) (jack b) (jack c)
+
+abbrev move : list.Move → Move
+move nothing = Nothing
+move (one o) = One (order o)
+move (two a b c d) = Two (jack a) (jack b) (jack c) (jack d)
+
+abbrev reason : ℕ → Reason
+reason k =
+    getD
+    (Shape ∷ Ports ∷ Room ∷ Outside ∷ Repeated ∷ OwnJack ∷ Rank ∷ Key ∷ Number ∷ Legs ∷ Run ∷ Ended ∷ NoMark ∷ MarkStands ∷ Kind ∷ Unfit ∷ Errors ∷ []) k Shape
+
+abbrev place : Spot → Place
+place nowhere = Nowhere
+place (atJack j) = AtJack (jack j)
+place (atLine l) = AtLine l
+
+order-back : (o : Order) → order (orderOf o) ≡ o
+unfolding jack
+order-back (Swap a b) = refl
+order-back (Turn a b c) = refl
+
+move-back : (v : Move) → move (moveOf v) ≡ v
+unfolding jack
+move-back Nothing = refl
+move-back (One o) = ap One (order-back o)
+move-back (Two a b c d) = refl
+
+reason-back : (r : Reason) → reason (numberOf r) ≡ r
+reason-back Ports = refl
+reason-back Room = refl
+reason-back Outside = refl
+reason-back Repeated = refl
+reason-back OwnJack = refl
+reason-back Rank = refl
+reason-back Key = refl
+reason-back Number = refl
+reason-back Legs = refl
+reason-back Run = refl
+reason-back Ended = refl
+reason-back NoMark = refl
+reason-back MarkStands = refl
+reason-back Kind = refl
+reason-back Unfit = refl
+reason-back Errors = refl
+reason-back Shape = refl
+
+place-back : (p : Place) → place (spotOf p) ≡ p
+unfolding jack
+place-back Nowhere = refl
+place-back (AtJack j) = refl
+place-back (AtLine l) = refl
+
+-- ---- so each is met once
+
+pub order-once : (o p : Order) → orderOf o ≡ orderOf p → o ≡ p
+order-once o p e = sym (order-back o) ∙ ap order e ∙ order-back p
+
+pub move-once : (v w : Move) → moveOf v ≡ moveOf w → v ≡ w
+move-once v w e = sym (move-back v) ∙ ap move e ∙ move-back w
+
+pub refusal-once : {A : Type 0} (r s : Refusal) → refusalOf {A = A} r ≡ refusalOf s → r ≡ s
+refusal-once r s e =
+    let number : numberOf (r .reason) ≡ numberOf (s .reason) = cc in
+    let spot : spotOf (r .place) ≡ spotOf (s .place) = cc in
+    let why : r .reason ≡ s .reason = sym (reason-back (r .reason)) ∙ ap reason number ∙ reason-back (s .reason) in
+    let where-at : r .place ≡ s .place = sym (place-back (r .place)) ∙ ap place spot ∙ place-back (s .place) in
+    λ i. record { reason = why i; place = where-at i }

@@ -1,0 +1,25 @@
+-- What a public call tells: that it was accepted, with what it gives, or the paper's number of the refusal and its place.
+-- Assumes nothing.
+use Prim.Native.Nat.{ℕ}
+
+-- where a fault is: at no place that is said, at a jack of a pattern or panel, at a line of a plan (the paper, 'Refusal numbers')
+pub data Spot : Type 0 where
+  nowhere : Spot
+  atJack : ℕ → Spot
+  atLine : ℕ → Spot
+
+-- the number of a place: 0 where none is said
+abbrev pub spotNumber : Spot → ℕ
+spotNumber nowhere = 0
+spotNumber (atJack j) = j
+spotNumber (atLine l) = l
+
+-- what a call tells
+pub data Told (A : Type 0) : Type 0 where
+  accepted : A → Told A
+  refused : ℕ → Spot → Told A
+
+-- a call that goes on with what an earlier one gives, and passes its refusal on whole
+abbrev pub then : {A B : Type 0} → Told A → (A → Told B) → Told B
+then (accepted a) f = f a
+then (refused k s) f = refused k s
