@@ -1,3 +1,5 @@
 pub mod Tests
 pub mod Onto
 pub mod Carriage
+pub mod Legs
+pub mod Ways
