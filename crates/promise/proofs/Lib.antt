@@ -3,3 +3,5 @@ pub mod Onto
 pub mod Carriage
 pub mod Legs
 pub mod Ways
+pub mod Fitness
+pub mod Steps

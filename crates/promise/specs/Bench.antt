@@ -11,7 +11,7 @@ use Rattle.listing.specs.Pattern.{differing}
 use Rattle.listing.specs.Orders.{Order, carry}
 use Rattle.promise.specs.Plan.{Family, Leg, cordsOf, ranks, marks, stepOf}
 use Rattle.promise.specs.Campaign.{
-  State, Call, request, report, Word, ran, error, gaveUp, wordOf, isError, Answer, movement, mark, theEnd, taken, refusal, Setting, answer, after,
+  State, Call, request, report, Word, wordOf, isError, tick, Answer, movement, mark, theEnd, taken, refusal, Setting, answer, after,
 }
 
 -- ---- calls, one after the other
@@ -123,16 +123,6 @@ Again again m (says w ∷ xs) = Again (isError w) m xs
 
 -- ---- reports
 
-abbrev pub isRan : Word → Bool
-isRan ran = true
-isRan error = false
-isRan gaveUp = false
-
-abbrev pub isGaveUp : Word → Bool
-isGaveUp ran = false
-isGaveUp error = false
-isGaveUp gaveUp = true
-
 -- the words that close a mark
 abbrev pub closes : Word → Bool
 closes w = not (isError w)
@@ -142,7 +132,7 @@ unfoldable pub reports : (Word → Bool) → List Act → ℕ
 reports kind [] = 0
 reports kind (moves o ∷ xs) = reports kind xs
 reports kind (meets k r ∷ xs) = reports kind xs
-reports kind (says w ∷ xs) = cond (kind w) 1 0 + reports kind xs
+reports kind (says w ∷ xs) = tick (kind w) + reports kind xs
 
 -- the number of the standing mark, if one stands, in front of others
 abbrev pub andStanding : Option ℕ → List ℕ → List ℕ

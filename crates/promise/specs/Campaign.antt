@@ -68,11 +68,29 @@ wordOf zero = ran
 wordOf (suc zero) = error
 wordOf (suc (suc kind)) = gaveUp
 
--- whether the word is an error, the one that leaves the mark to be handed out again
+-- which word it is. An error is the one that does not close the mark
+abbrev pub isRan : Word → Bool
+isRan ran = true
+isRan error = false
+isRan gaveUp = false
+
 abbrev pub isError : Word → Bool
 isError ran = false
 isError error = true
 isError gaveUp = false
+
+abbrev pub isGaveUp : Word → Bool
+isGaveUp ran = false
+isGaveUp error = false
+isGaveUp gaveUp = true
+
+-- one where the test passes
+abbrev pub tick : Bool → ℕ
+tick b = cond b 1 0
+
+-- 'Ran adds one to covered', 'gave up adds one to open', 'error adds one to errors'
+abbrev pub tallied : Word → State → State
+tallied w s = withCounts (tick (isRan w) + s .covered) (tick (isGaveUp w) + s .opened) (tick (isError w) + s .errors) s
 
 -- 'By kind, the answer to a request for an order is one of four things: a movement order, a mark, the end, or a refusal'; a mark comes with its number and
 -- rank, the end with the plan's marks, a refusal with its number. A report is taken or refused
@@ -165,12 +183,6 @@ module _ (C : Setting) where
       (cond (isError (wordOf kind) && leb (C .limit) (s .errors)) (refusal 16)
       taken)))
 
-  -- 'Ran adds one to covered', 'gave up adds one to open', 'error adds one to errors'
-  abbrev pub tallied : Word → State → State
-  tallied ran s = withCounts (suc (s .covered)) (s .opened) (s .errors) s
-  tallied error s = withCounts (s .covered) (s .opened) (suc (s .errors)) s
-  tallied gaveUp s = withCounts (s .covered) (suc (s .opened)) (s .errors) s
-
   -- 'Closing goes on to the next step, or to step 0 of the next leg; at the plan's last mark leg and step stay and the end is shown from then'
   unfoldable pub closed : State → State
   closed s =
@@ -178,11 +190,9 @@ module _ (C : Setting) where
       (cond (ltb (suc (s .leg)) (length (C .legs))) (placed (suc (s .leg)) 0 false s)
       (placed (s .leg) (s .step) true s))
 
-  -- a report that is taken: ran and gave up close the mark; after an error it stands no more, and is the next one still
-  abbrev pub heard : Word → State → State
-  heard ran s = closed (tallied ran s)
-  heard error s = withMark false (tallied error s)
-  heard gaveUp s = closed (tallied gaveUp s)
+  -- a report that is taken: after an error the mark stands no more, and is the next one still; ran and gave up close it
+  unfoldable pub heard : Word → State → State
+  heard w s = cond (isError w) (withMark false (tallied w s)) (closed (tallied w s))
 
   -- the state that a call leaves: 'a movement order handed out counts as carried out in the state's panel'; a refusal and the end leave the state as it was
   unfoldable pub after : Call → Answer → State → State

@@ -10,10 +10,10 @@ use lib.ListN.{length, getD}
 use Rattle.listing.specs.Pattern.{Derangement}
 use Rattle.listing.specs.Orders.{Order, InShape}
 use Rattle.promise.specs.Plan.{Family, marks}
-use Rattle.promise.specs.Campaign.{State, isError, movement, refusal, Setting, first}
+use Rattle.promise.specs.Campaign.{State, isRan, isError, isGaveUp, movement, refusal, Setting, first}
 use Rattle.promise.specs.Fitness.{Why}
 use Rattle.promise.specs.Bench.{
-  Turn, leaves, Each, Act, acts, bench, Meets, marksMet, panelsMet, planned, Begins, Again, isRan, isGaveUp, closes, reports, reportedAs, Rising, InTurn,
+  Turn, leaves, Each, Act, acts, bench, Meets, marksMet, panelsMet, planned, Begins, Again, closes, reports, reportedAs, Rising, InTurn,
   Spaced, NamesFew, DiffersFew, Suits, EndRight,
 }
 
