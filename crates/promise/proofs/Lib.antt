@@ -5,3 +5,5 @@ pub mod Legs
 pub mod Ways
 pub mod Fitness
 pub mod Steps
+pub mod Refusals
+pub mod Marks
