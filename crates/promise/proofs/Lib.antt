@@ -7,3 +7,4 @@ pub mod Fitness
 pub mod Steps
 pub mod Refusals
 pub mod Marks
+pub mod Tallies

@@ -21,15 +21,16 @@ use Rattle.promise.proofs.Steps.{
   Closes, to-step, to-leg, to-end, moves-on, hands-out, ends, closes, errs, refuses, not-ended, listed-here, over-here, History, stop, then,
 }
 
--- closing a mark leaves the panel as it is, and no mark stands
+-- closing a mark leaves the panel as it is and as many marks closed as were counted, and no mark stands
 pub record Closed (s t : State) : Type 0 where
   pub panel : t .panel ≡ s .panel
+  pub sum : t .covered + t .opened ≡ s .covered + s .opened
   pub standing : t .standing ≡ false
 
 pub closed-so : {C : Setting} {s t : State} → Closes C s t → Closed s t
-closed-so (to-step a) = record { panel = refl; standing = refl }
-closed-so (to-leg a b) = record { panel = refl; standing = refl }
-closed-so (to-end a b) = record { panel = refl; standing = refl }
+closed-so (to-step a) = record { panel = refl; sum = refl; standing = refl }
+closed-so (to-leg a b) = record { panel = refl; sum = refl; standing = refl }
+closed-so (to-end a b) = record { panel = refl; sum = refl; standing = refl }
 
 -- ---- the plan's list from one of its marks on
 

@@ -124,8 +124,8 @@ Again again m (says w ∷ xs) = Again (isError w) m xs
 -- ---- reports
 
 -- the words that close a mark
-abbrev pub closes : Word → Bool
-closes w = not (isError w)
+abbrev pub isClosing : Word → Bool
+isClosing w = not (isError w)
 
 -- how many reports of a kind were taken
 unfoldable pub reports : (Word → Bool) → List Act → ℕ

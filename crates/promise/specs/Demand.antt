@@ -13,7 +13,7 @@ use Rattle.promise.specs.Plan.{Family, marks}
 use Rattle.promise.specs.Campaign.{State, isRan, isError, isGaveUp, movement, refusal, Setting, first}
 use Rattle.promise.specs.Fitness.{Why}
 use Rattle.promise.specs.Bench.{
-  Turn, leaves, Each, Act, acts, bench, Meets, marksMet, panelsMet, planned, Begins, Again, closes, reports, reportedAs, Rising, InTurn,
+  Turn, leaves, Each, Act, acts, bench, Meets, marksMet, panelsMet, planned, Begins, Again, isClosing, reports, reportedAs, Rising, InTurn,
   Spaced, NamesFew, DiffersFew, Suits, EndRight,
 }
 
@@ -52,8 +52,8 @@ pub record Demanded (C : Setting) (ts : List Turn) (xs : List Act) (s : State) :
   pub errorsStop : s .errors ≤ C .limit
 
   -- 'Ran .. closes the mark. Gave up .. closes it': the marks are closed by their numbers in turn, each by one report
-  pub closedInTurn : InTurn 0 (reportedAs closes none xs)
-  pub closedCounts : s .covered + s .opened ≡ length (reportedAs closes none xs)
+  pub closedInTurn : InTurn 0 (reportedAs isClosing none xs)
+  pub closedCounts : s .covered + s .opened ≡ length (reportedAs isClosing none xs)
 
   -- 'A finished campaign has covered plus open equal to the plan's marks', and no other has
   pub finishedCounts : (s .ended ≡ true) ↔ (s .covered + s .opened ≡ marks (C .legs))
