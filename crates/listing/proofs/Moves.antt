@@ -101,7 +101,7 @@ differing-same [] = refl
 differing-same (x ∷ p) = omega (arith, is-same x x 0 1 refl, differing-same p)
 
 -- two panels differ at no more jacks than each of them does from a third, in all
-differing-by : (p q r : List ℕ) → length q ≡ length p → differing p r ≤ differing p q + differing q r
+pub differing-by : (p q r : List ℕ) → length q ≡ length p → differing p r ≤ differing p q + differing q r
 unfolding differing is
 differing-by [] q r e = omega arith
 differing-by (x ∷ p) [] r e = absurd (omega arith)
@@ -109,7 +109,7 @@ differing-by (x ∷ p) (y ∷ q) [] e = omega arith
 differing-by (x ∷ p) (y ∷ q) (z ∷ r) e = omega (arith, one-by x y z, differing-by p q r (omega arith))
 
 -- one store changes at most one jack
-differing-set : (p : List ℕ) (k v : ℕ) → differing p (set p k v) ≤ 1
+pub differing-set : (p : List ℕ) (k v : ℕ) → differing p (set p k v) ≤ 1
 unfolding differing is
 differing-set [] k v = omega arith
 differing-set (x ∷ p) zero v = either (is-cases x v 0 1) (λ c. omega (arith, differing-same p)) (λ c. omega (arith, differing-same p))

@@ -11,12 +11,11 @@ use lib.ListN.{length}
 use borrow.Author.Tests.{eq-eqb, ne-eqb}
 use Rattle.listing.specs.Numbers.{Among}
 use Rattle.listing.specs.Pattern.{entry, Permutation}
-use Rattle.listing.specs.Orders.{Order, swap, source, carry, carryAll, InShape}
+use Rattle.listing.specs.Orders.{Order, swap, source, carry, carryAll, InShape, AllInShape}
 use Rattle.listing.proofs.Numbers.{either, below?, same?}
 use Rattle.listing.proofs.Panels.{same-entries, entry-carry}
 use Rattle.listing.proofs.Sources.{by-swap, carry-permutation}
 use Rattle.promise.specs.Carriage.{holder, fetch, carriageFrom, carriage}
-use Rattle.promise.specs.Plan.{AllInShape}
 use Rattle.promise.proofs.Onto.{holds}
 
 -- the panel p is on its way to t: both are permutations of 1..n, they agree at the jacks before j, and k jacks are left from j on

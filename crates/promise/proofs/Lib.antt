@@ -8,3 +8,6 @@ pub mod Steps
 pub mod Refusals
 pub mod Marks
 pub mod Tallies
+pub mod Differing
+pub mod Spaces
+pub mod Promise

@@ -9,11 +9,11 @@ use Prim.Native.Nat.{ℕ, zero, suc, _+_, _-_, _≤_, _<_}
 use native.Mathlib.Omega.{arith}
 use lib.ListN.{length, take}
 use Rattle.listing.specs.Pattern.{Permutation}
-use Rattle.listing.specs.Orders.{Order, carry, carryAll}
+use Rattle.listing.specs.Orders.{Order, carry, carryAll, AllInShape}
 use Rattle.listing.proofs.Numbers.{either, test}
 use Rattle.promise.specs.Tests.{isPermutation, same}
 use Rattle.promise.specs.Carriage.{carriage}
-use Rattle.promise.specs.Plan.{AllInShape, cordsOf, cords, Family, Step, Lawful, Leg, rankAt}
+use Rattle.promise.specs.Plan.{cords, Family, Step, Lawful, Leg, rankAt}
 use Rattle.promise.specs.Campaign.{rest, toCome, found}
 use Rattle.promise.specs.Fitness.{Passed, OnTheWay}
 use Rattle.promise.proofs.Tests.{Tells, clash, fails, tells-permutation, tells-same, same-self}

@@ -7,9 +7,10 @@ use mathlib.Core.Bool.{Bool, true, false, not, cond, _&&_}
 use mathlib.Core.List.{List, [], _∷_, _++_}
 use mathlib.Core.Option.{Option, none, some}
 use lib.Dec.{eqb}
+use lib.ListN.{length}
 use Rattle.listing.specs.Pattern.{differing}
 use Rattle.listing.specs.Orders.{Order, carry}
-use Rattle.promise.specs.Plan.{Family, Leg, cordsOf, ranks, marks, stepOf}
+use Rattle.promise.specs.Plan.{Family, Leg, jacks, ranks, marks, stepOf}
 use Rattle.promise.specs.Campaign.{
   State, Call, request, report, Word, wordOf, isError, tick, Answer, movement, mark, theEnd, taken, refusal, Setting, answer, after,
 }
@@ -168,7 +169,7 @@ Spaced most n (says w ∷ xs) = Spaced most n xs
 -- at a mark that is not its leg's first, the orders since the last mark name at most reach cords (n: those named since)
 unfoldable pub NamesFew : List Leg → ℕ → ℕ → List Act → Type 0
 NamesFew legs reach n [] = Unit {0}
-NamesFew legs reach n (moves o ∷ xs) = NamesFew legs reach (n + cordsOf o) xs
+NamesFew legs reach n (moves o ∷ xs) = NamesFew legs reach (n + length (jacks o)) xs
 NamesFew legs reach n (meets k r ∷ xs) = (0 < stepOf legs k → n ≤ reach) × NamesFew legs reach 0 xs
 NamesFew legs reach n (says w ∷ xs) = NamesFew legs reach n xs
 

@@ -8,23 +8,19 @@ use lib.Dec.{leb}
 use lib.ListN.{length}
 use Rattle.listing.specs.Numbers.{before, is}
 use Rattle.listing.specs.Pattern.{Permutation, Derangement}
-use Rattle.listing.specs.Orders.{Order, swap, turn, carryAll, InShape}
+use Rattle.listing.specs.Orders.{Order, swap, turn, carryAll, AllInShape}
 
 -- ---- orders
 
--- every order is in shape for n jacks
-abbrev pub AllInShape : ℕ → List Order → Type 0
-AllInShape n [] = Unit {0}
-AllInShape n (o ∷ os) = InShape n o × AllInShape n os
+-- the jacks that an order names, each with its cord
+abbrev pub jacks : Order → List ℕ
+jacks (swap a b) = a ∷ b ∷ []
+jacks (turn a b c) = a ∷ b ∷ c ∷ []
 
--- how many jacks an order names, each with its cord
-abbrev pub cordsOf : Order → ℕ
-cordsOf (swap a b) = 2
-cordsOf (turn a b c) = 3
-
+-- how many cords orders name
 unfoldable pub cords : List Order → ℕ
 cords [] = 0
-cords (o ∷ os) = cordsOf o + cords os
+cords (o ∷ os) = length (jacks o) + cords os
 
 -- ---- families
 
