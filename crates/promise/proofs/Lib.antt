@@ -11,3 +11,4 @@ pub mod Tallies
 pub mod Differing
 pub mod Spaces
 pub mod Promise
+pub mod Circuit
