@@ -12,3 +12,4 @@ pub mod Differing
 pub mod Spaces
 pub mod Promise
 pub mod Circuit
+pub mod Derangements

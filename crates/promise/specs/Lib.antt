@@ -5,3 +5,4 @@ pub mod Campaign
 pub mod Fitness
 pub mod Bench
 pub mod Demand
+pub mod Derangements
