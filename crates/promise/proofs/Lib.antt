@@ -13,3 +13,4 @@ pub mod Spaces
 pub mod Promise
 pub mod Circuit
 pub mod Derangements
+pub mod Progress

@@ -86,7 +86,7 @@ module _ (C : Setting) (s : State) where
       last (suc (suc kind)) b = refl
 
   -- what is offered in a fit state is no refusal
-  offered : Fit C s → s .standing ≡ false → (k : ℕ) → offer C s ≡ refusal k → ⊥
+  pub offered : Fit C s → s .standing ≡ false → (k : ℕ) → offer C s ≡ refusal k → ⊥
   unfolding offer
   offered f st k = by-end (s .ended) refl
     where

@@ -6,3 +6,4 @@ pub mod Fitness
 pub mod Bench
 pub mod Demand
 pub mod Derangements
+pub mod Progress

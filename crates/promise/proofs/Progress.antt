@@ -1,0 +1,220 @@
+-- Every order, mark and closing report brings the end nearer, and an error puts it off by one mark: so calls that are not refused reach the end, after
+-- callsToEnd of them and two more for each error.
+-- Assumes nothing.
+use mathlib.Core.Path.{_≡_, refl, sym, ap, _∙_, subst}
+use mathlib.Core.Logic.{_≢_}
+use mathlib.Core.Bool.{Bool, true, false, cond}
+use mathlib.Core.List.{List, [], _∷_}
+use mathlib.Core.Option.{Option, none, some}
+use Prim.Native.Nat.{ℕ, zero, suc, _+_, _-_, _*_, _≤_, _<_}
+use native.Mathlib.Omega.{arith}
+use lib.ListN.{length}
+use Rattle.listing.specs.Orders.{Order, carry}
+use Rattle.listing.proofs.Numbers.{either, test}
+use Rattle.promise.specs.Plan.{Lawful, Accepted, marks, number}
+use Rattle.promise.specs.Campaign.{
+  State, withPanel, withMark, Call, request, report, wordOf, isError, error, tick, tallied, Answer, movement, mark, theEnd, taken, refusal, Setting, first, toCome,
+  here, numberOf, todo, offer, answer, after,
+}
+use Rattle.promise.specs.Fitness.{Fit}
+use Rattle.promise.specs.Bench.{Turn, run, leaves, Act, inFront, acts, reports}
+use Rattle.promise.specs.Progress.{perMark, callsToEnd, howMany, work, bringsOn, broughtOn, Unrefused, dueCall, promptly}
+use Rattle.promise.proofs.Tests.{clash}
+use Rattle.promise.proofs.Legs.{number-below, number-first, number-step, number-leg}
+use Rattle.promise.proofs.Ways.{Within, way-found, way-step}
+use Rattle.promise.proofs.Steps.{
+  Closes, to-step, to-leg, to-end, Does, moves-on, hands-out, ends, closes, errs, refuses, does-so, not-ended, listed-here, coming-here, over-here, fit-first,
+  fit-after, History, stop, then, history,
+}
+use Rattle.promise.proofs.Refusals.{served, accepted-report, offered}
+use Rattle.promise.proofs.Tallies.{error-counts, counted-so, fit-last}
+
+-- the work by its parts
+work-by : (C : Setting) (s : State) (en st : Bool) (o : Option (List Order)) → s .ended ≡ en → s .standing ≡ st → todo C s ≡ o
+    → work C s ≡ cond en 0 ((marks (C .legs) - suc (numberOf C s)) * perMark C + cond st 1 (2 + howMany o))
+unfolding work
+work-by C s en st o e f g =
+    let rest : ℕ = (marks (C .legs) - suc (numberOf C s)) * perMark C in
+    ap (λ b. cond b 0 (rest + cond (s .standing) 1 (2 + howMany (todo C s)))) e
+    ∙ ap (λ b. cond en 0 (rest + cond b 1 (2 + howMany (todo C s)))) f
+    ∙ ap (λ x. cond en 0 (rest + cond st 1 (2 + howMany x))) g
+
+-- where one mark less is left after this one, what it takes is at most what a mark takes
+one-less : (r r' p len w : ℕ) → r ≡ suc r' → len ≤ p → w ≡ r' * (2 + p) + (2 + len) → w ≤ r * (2 + p)
+one-less r r' p len w e l f = rw (e, f) (omega arith)
+
+-- as many turns as calls
+length-run : (C : Setting) (cs : List Call) (s : State) → length (run C cs s) ≡ length cs
+unfolding run
+length-run C [] s = refl
+length-run C (c ∷ cs) s = ap suc (length-run C cs (after C c (answer C c s) s))
+
+length-promptly : (C : Setting) (n : ℕ) (s : State) → length (promptly C n s) ≡ n
+unfolding promptly
+length-promptly C zero s = refl
+length-promptly C (suc n) s = ap suc (length-promptly C n (after C (dueCall C s) (answer C (dueCall C s) s) s))
+
+-- a call that is due reports no error
+no-error : (b : Bool) (room : ℕ) (a : Answer) (xs : List Act) → reports isError (inFront (cond b (report 0) (request room)) a xs) ≡ reports isError xs
+unfolding reports
+no-error b room (movement o) xs = refl
+no-error b room (mark k r) xs = refl
+no-error b room (theEnd k) xs = refl
+no-error true room taken xs = omega arith
+no-error false room taken xs = refl
+no-error b room (refusal k) xs = refl
+
+due-errors : (C : Setting) (n : ℕ) (s : State) → reports isError (acts (run C (promptly C n s) s)) ≡ 0
+unfolding promptly run acts dueCall reports
+due-errors C zero s = refl
+due-errors C (suc n) s =
+    let t : State = after C (dueCall C s) (answer C (dueCall C s) s) s in
+    no-error (s .standing) (C .width (offer C s)) (answer C (dueCall C s) s) (acts (run C (promptly C n t) t)) ∙ due-errors C n t
+
+module _ (C : Setting) (lawful : Lawful (C .family)) (accepted : Accepted (C .family) (C .legs)) where
+  -- the work before a mark that is not handed out yet
+  work-open : (t : State) → Fit C t → t .ended ≡ false → t .standing ≡ false
+      → (vs : List Order) × (length vs ≤ C .family .ports - 1) × (work C t ≡ (marks (C .legs) - suc (numberOf C t)) * perMark C + (2 + length vs))
+  work-open t f en st =
+      let w : (vs : List Order) × (todo C t ≡ some vs) = way-found (C .family) (here C t) (t .step) (t .panel) (f .between st en) in
+      (w .0, coming-here C lawful accepted t f (w .0) (w .1) .few, work-by C t false false (some (w .0)) en st (w .1))
+
+  -- after closing a mark no more is left than the marks after it take
+  work-closed : {x t : State} → x .leg < length (C .legs) → x .step ≤ here C x .run → Closes C x t → Fit C t
+      → work C t ≤ (marks (C .legs) - suc (numberOf C x)) * perMark C
+  work-closed {x} {t} l k (to-step a) f =
+      let w = work-open t f refl refl in
+      one-less (marks (C .legs) - suc (numberOf C x)) (marks (C .legs) - suc (numberOf C t)) (C .family .ports - 1) (length (w .0)) (work C t)
+      (omega (arith, number-below (C .legs) (x .leg) (suc (x .step)) l a, number-step (C .legs) (x .leg) (x .step))) (w .1) (w .2)
+  work-closed {x} {t} l k (to-leg a b) f =
+      let w = work-open t f refl refl in
+      one-less (marks (C .legs) - suc (numberOf C x)) (marks (C .legs) - suc (numberOf C t)) (C .family .ports - 1) (length (w .0)) (work C t)
+      (omega (arith, number-below (C .legs) (suc (x .leg)) 0 b (omega arith), number-leg (C .legs) (x .leg) b, ap (λ j. number (C .legs) (x .leg) j) a))
+      (w .1) (w .2)
+  work-closed {x} {t} l k (to-end a b) f = omega (arith, work-by C t true false (todo C t) refl refl refl)
+
+  -- ---- what each step does to the work
+
+  -- an order leaves less
+  pub work-moved : (s : State) → Fit C s → (o : Order) (os : List Order) → s .standing ≡ false → s .ended ≡ false → todo C s ≡ some (o ∷ os)
+      → work C (withPanel (carry o (s .panel)) s) < work C s
+  work-moved s f o os st en w =
+      let t : State = withPanel (carry o (s .panel)) s in
+      let v : (vs : List Order) × (todo C t ≡ some vs) × Within os vs =
+      way-step (C .family) lawful (here C s) (s .step) (listed-here C lawful accepted s f) (s .panel) o os w in
+      omega (arith, work-by C s false false (some (o ∷ os)) en st w, work-by C t false false (some (v .0)) en st (v .1), v .2 .few)
+
+  -- a mark leaves less
+  pub work-marked : (s : State) → s .standing ≡ false → s .ended ≡ false → todo C s ≡ some [] → work C (withMark true s) < work C s
+  work-marked s st en w = omega (arith, work-by C s false false (some []) en st w, work-by C (withMark true s) false true (some []) en refl w)
+
+  -- closing a mark leaves less
+  pub work-closing : (s t : State) (kind : ℕ) → Fit C s → s .standing ≡ true → Closes C (tallied (wordOf kind) s) t → Fit C t → work C t < work C s
+  work-closing s t kind f st x g =
+      omega (arith, work-by C s false true (todo C s) (not-ended s f st) st refl, work-closed (f .leg) (f .step) x g)
+
+  -- an error puts the mark off: one more is left
+  pub work-erred : (s : State) → Fit C s → s .standing ≡ true → work C (withMark false (tallied error s)) ≡ suc (work C s)
+  work-erred s f st =
+      let en : s .ended ≡ false = not-ended s f st in
+      let over : todo C s ≡ some [] = over-here C lawful accepted s f (f .atMark st) in
+      omega (arith, work-by C s false true (some []) en st over, work-by C (withMark false (tallied error s)) false false (some []) en refl over)
+
+  -- the first state's work is at most what all marks take
+  pub work-first : work C (first C) ≤ callsToEnd C
+  unfolding first
+  work-first =
+      let w = work-open (first C) (fit-first C lawful accepted) refl refl in
+      one-less (marks (C .legs)) (marks (C .legs) - 1) (C .family .ports - 1) (length (w .0)) (work C (first C))
+      (omega (arith, number-below (C .legs) 0 0 (accepted .someLeg) (omega arith))) (w .1)
+      (w .2 ∙ ap (λ k. (marks (C .legs) - suc k) * perMark C + (2 + length (w .0))) (number-first (C .legs)))
+
+  -- ---- any calls
+
+  -- the turns that bring the campaign on, and the work that is left, are the work at first and two for each error, or less
+  worked : {s : State} {ts : List Turn} → History C s ts → broughtOn ts + work C (leaves s ts) ≤ work C s + 2 * reports isError (acts ts)
+  unfolding broughtOn leaves acts reports
+  worked (stop f) = omega arith
+  worked {s} (then f (moves-on o os st en w) h) = omega (arith, worked h, work-moved s f o os st en w)
+  worked {s} (then f (hands-out st en w) h) = omega (arith, worked h, work-marked s st en w)
+  worked (then f (ends en) h) = omega (arith, worked h)
+  worked {s} (then {t = t} f (closes {kind = kind} st ne x) h) =
+      omega (arith, worked h, work-closing s t kind f st x (fit-after C lawful accepted f (closes {kind = kind} st ne x)), ap tick ne)
+  worked {s} (then f (errs st lt) h) = omega (arith, worked h, work-erred s f st)
+  worked (then f (refuses k n) h) = omega (arith, worked h)
+
+  -- the end, once shown, stays
+  ended-stays : {s : State} {ts : List Turn} → s .ended ≡ true → History C s ts → leaves s ts .ended ≡ true
+  unfolding leaves
+  ended-stays e (stop f) = e
+  ended-stays e (then f (moves-on o os st en w) h) = clash e en
+  ended-stays e (then f (hands-out st en w) h) = clash e en
+  ended-stays e (then f (ends en) h) = ended-stays e h
+  ended-stays {s} e (then f (closes st ne x) h) = clash e (not-ended s f st)
+  ended-stays {s} e (then f (errs st lt) h) = clash e (not-ended s f st)
+  ended-stays e (then f (refuses k n) h) = ended-stays e h
+
+  -- until the end every call that is not refused brings the campaign on
+  all-bring : {s : State} {ts : List Turn} → History C s ts → Unrefused ts → leaves s ts .ended ≡ false → broughtOn ts ≡ length ts
+  unfolding Unrefused broughtOn leaves
+  all-bring (stop f) u e = refl
+  all-bring (then f (moves-on o os st en w) h) u e = omega (arith, all-bring h (u .1) e)
+  all-bring (then f (hands-out st en w) h) u e = omega (arith, all-bring h (u .1) e)
+  all-bring (then f (ends en) h) u e = clash (ended-stays en h) e
+  all-bring (then f (closes st ne x) h) u e = omega (arith, all-bring h (u .1) e)
+  all-bring (then f (errs st lt) h) u e = omega (arith, all-bring h (u .1) e)
+  all-bring (then f (refuses k n) h) u e = absurd (u .0 k refl)
+
+  -- before the end some work is left
+  some-work : (s : State) → s .ended ≡ false → 1 ≤ work C s
+  some-work s en =
+      either (test (s .standing))
+      (λ st. omega (arith, work-by C s false true (todo C s) en st refl))
+      (λ st. omega (arith, work-by C s false false (todo C s) en st refl))
+
+  module _ (cs : List Call) where
+    abbrev turns : List Turn
+    turns = run C cs (first C)
+
+    told : History C (first C) turns
+    told = history C lawful accepted cs (first C) (fit-first C lawful accepted)
+
+    -- there are never more orders, marks and reports taken than all marks take and two for each error
+    pub brought-most : broughtOn turns ≤ callsToEnd C + 2 * reports isError (acts turns)
+    brought-most = omega (arith, worked told, work-first)
+
+    -- calls that are not refused reach the end, if they are as many
+    pub reaches-end : Unrefused turns → callsToEnd C + 2 * reports isError (acts turns) ≤ length cs → leaves (first C) turns .ended ≡ true
+    reaches-end u many =
+        either (test (leaves (first C) turns .ended)) (λ e. e) (λ e.
+        absurd (omega (arith, worked told, work-first, all-bring told u e, length-run C cs (first C), some-work (leaves (first C) turns) e)))
+
+    -- and since errors stop at the limit, so many calls reach it however many errors are reported
+    pub reaches-end-always : Unrefused turns → callsToEnd C + 2 * C .limit ≤ length cs → leaves (first C) turns .ended ≡ true
+    unfolding first
+    reaches-end-always u many =
+        let errors : leaves (first C) turns .errors ≡ reports isError (acts turns) = counted-so C isError (λ s. s .errors) error-counts told ∙ omega arith in
+        reaches-end u (omega (arith, errors, fit-last C told .errors))
+
+  -- ---- calls that are not refused
+
+  -- the call that is due is not refused
+  due-answered : (s : State) → Fit C s → (k : ℕ) → answer C (dueCall C s) s ≢ refusal k
+  unfolding dueCall
+  due-answered s f k = by-mark (s .standing) refl
+    where
+      by-mark : (b : Bool) → s .standing ≡ b → answer C (cond b (report 0) (request (C .width (offer C s)))) s ≢ refusal k
+      by-mark true st e = let z : _≡_ {A = ℕ} 0 1 = cc (accepted-report C s 0 f (omega arith) st (λ x. absurd (omega arith))) in omega arith
+      by-mark false st e = offered C s f st k (sym (served C s (C .width (offer C s)) f st (omega arith)) ∙ e)
+
+  due-unrefused : (n : ℕ) (s : State) → Fit C s → Unrefused (run C (promptly C n s) s)
+  unfolding promptly run Unrefused
+  due-unrefused zero s f = tt
+  due-unrefused (suc n) s f =
+      (due-answered s f, due-unrefused n (after C (dueCall C s) (answer C (dueCall C s) s) s) (fit-after C lawful accepted f (does-so C s f (dueCall C s))))
+
+  -- so a campaign whose marks are all taken as run has ended after callsToEnd calls
+  pub promptly-ends : leaves (first C) (run C (promptly C (callsToEnd C) (first C)) (first C)) .ended ≡ true
+  promptly-ends =
+      reaches-end (promptly C (callsToEnd C) (first C)) (due-unrefused (callsToEnd C) (first C) (fit-first C lawful accepted))
+      (omega (arith, due-errors C (callsToEnd C) (first C), length-promptly C (callsToEnd C) (first C)))
