@@ -14,3 +14,5 @@ pub mod Promise
 pub mod Circuit
 pub mod Derangements
 pub mod Progress
+pub mod Wrong
+pub mod Example
