@@ -23,6 +23,7 @@ use Rattle.promise.specs.Campaign.{Call, Answer, first}
 use Rattle.promise.specs.Bench.{run, leaves, acts}
 use Rattle.promise.specs.Demand.{Demand, FullCircuit}
 use Rattle.promise.specs.Derangements.{rankBeside, moveBeside, derangements, onPorts}
+use Rattle.promise.proofs.Straight.{straight-move}
 use Rattle.promise.proofs.Promise.{promise}
 use Rattle.promise.proofs.Circuit.{circuit-accepts, full-circuit}
 
@@ -62,6 +63,7 @@ module _ (m : ℕ) where
         let l : Leads n (moveBeside n back r) (at n r) (at n (rankBeside n back r)) = beside-leads back r h in
         record {
           leads = l .makes;
+          straight = straight-move n (moveBeside n back r) (at n r) (l .form) (at-derangement n r h .permutation);
           few = few-orders m (moveBeside n back r) (l .form);
           near = four-cords (moveBeside n back r);
           shaped = orders-shaped n (moveBeside n back r) (l .form);

@@ -8,7 +8,7 @@ use native.Mathlib.Omega.{arith}
 use lib.ListN.{length, getD, length-append, List·getD-append}
 use lib.Seq.{getD-append-add}
 use borrow.Author.Tests.{le-leb, lt-leb}
-use Rattle.promise.specs.Plan.{Family, Leg, legAt, stepped, rankAt, walk, ranks, marks, number, stepOf}
+use Rattle.promise.specs.Plan.{Family, Leg, legAt, stepped, rankAt, walk, ranks, marks, number, stepOf, legOf}
 
 -- ---- the ranks that a leg names
 
@@ -76,6 +76,16 @@ stepOf-number (l ∷ ls) (suc i) k h e =
     let past : l .run < suc (l .run) + number ls i k = omega arith in
     let within : suc (l .run) + number ls i k - suc (l .run) ≡ number ls i k = omega arith in
     rw (lt-leb (suc (l .run) + number ls i k) (l .run) past, within) (stepOf-number ls i k (omega arith) e)
+
+-- and so is its leg
+pub legOf-number : (ls : List Leg) (i k : ℕ) → i < length ls → k ≤ legAt ls i .run → legOf ls (number ls i k) ≡ legAt ls i
+unfolding number legOf
+legOf-number [] i k h e = absurd (omega arith)
+legOf-number (l ∷ ls) zero k h e = rw (le-leb k (l .run) e)
+legOf-number (l ∷ ls) (suc i) k h e =
+    let past : l .run < suc (l .run) + number ls i k = omega arith in
+    let within : suc (l .run) + number ls i k - suc (l .run) ≡ number ls i k = omega arith in
+    rw (lt-leb (suc (l .run) + number ls i k) (l .run) past, within) (legOf-number ls i k (omega arith) e)
 
 -- ---- the plan's list
 

@@ -10,8 +10,10 @@ pub mod Marks
 pub mod Tallies
 pub mod Differing
 pub mod Spaces
+pub mod Leads
 pub mod Promise
 pub mod Circuit
+pub mod Straight
 pub mod Derangements
 pub mod Progress
 pub mod Wrong

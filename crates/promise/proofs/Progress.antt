@@ -21,13 +21,13 @@ use Rattle.promise.specs.Bench.{Turn, run, leaves, Act, inFront, acts, r
 use Rattle.promise.specs.Progress.{perMark, callsToEnd, howMany, work, bringsOn, broughtOn, Unrefused, dueCall, promptly}
 use Rattle.promise.proofs.Tests.{clash}
 use Rattle.promise.proofs.Legs.{number-below, number-first, number-step, number-leg}
-use Rattle.promise.proofs.Ways.{Within, way-found, way-step}
+use Rattle.promise.proofs.Ways.{way-found}
 use Rattle.promise.proofs.Steps.{
-  Closes, to-step, to-leg, to-end, Does, moves-on, hands-out, ends, closes, errs, refuses, does-so, not-ended, listed-here, coming-here, over-here, fit-first,
-  fit-after, History, stop, then, history,
+  Closes, to-step, to-leg, to-end, Does, moves-on, hands-out, ends, closes, errs, refuses, does-so, not-ended, coming-here, over-here, step-on, fit-first,
+  fit-after, History, stop, then, fit-last, history,
 }
 use Rattle.promise.proofs.Refusals.{served, accepted-report, offered}
-use Rattle.promise.proofs.Tallies.{error-counts, counted-so, fit-last}
+use Rattle.promise.proofs.Tallies.{error-counts, counted-so}
 
 -- the work by its parts
 work-by : (C : Setting) (s : State) (en st : Bool) (o : Option (List Order)) → s .ended ≡ en → s .standing ≡ st → todo C s ≡ o
@@ -100,9 +100,7 @@ module _ (C : Setting) (lawful : Lawful (C .family)) (accepted : Accepted (C .fa
       → work C (withPanel (carry o (s .panel)) s) < work C s
   work-moved s f o os st en w =
       let t : State = withPanel (carry o (s .panel)) s in
-      let v : (vs : List Order) × (todo C t ≡ some vs) × Within os vs =
-      way-step (C .family) lawful (here C s) (s .step) (listed-here C lawful accepted s f) (s .panel) o os w in
-      omega (arith, work-by C s false false (some (o ∷ os)) en st w, work-by C t false false (some (v .0)) en st (v .1), v .2 .few)
+      omega (arith, work-by C s false false (some (o ∷ os)) en st w, work-by C t false false (some os) en st (step-on C lawful accepted s f o os w))
 
   -- a mark leaves less
   pub work-marked : (s : State) → s .standing ≡ false → s .ended ≡ false → todo C s ≡ some [] → work C (withMark true s) < work C s
@@ -194,7 +192,7 @@ module _ (C : Setting) (lawful : Lawful (C .family)) (accepted : Accepted (C .fa
     unfolding first
     reaches-end-always u many =
         let errors : leaves (first C) turns .errors ≡ reports isError (acts turns) = counted-so C isError (λ s. s .errors) error-counts told ∙ omega arith in
-        reaches-end u (omega (arith, errors, fit-last C told .errors))
+        reaches-end u (omega (arith, errors, fit-last told .errors))
 
   -- ---- calls that are not refused
 

@@ -22,14 +22,15 @@ use Rattle.promise.specs.Demand.{Demand}
 use Rattle.promise.proofs.Tests.{clash}
 use Rattle.promise.proofs.Legs.{number-first}
 use Rattle.promise.proofs.Steps.{
-  Does, moves-on, hands-out, ends, closes, errs, refuses, does-so, coming-here, fit-first, History, history, each-turn,
+  Does, moves-on, hands-out, ends, closes, errs, refuses, does-so, coming-here, fit-first, History, fit-last, history, each-turn,
 }
 use Rattle.promise.proofs.Refusals.{served, tells-refusal}
 use Rattle.promise.proofs.Marks.{newest, newMark, list-over, meets-so, carried-so, between-so, again-so}
 use Rattle.promise.proofs.Tallies.{
-  covered-counts, open-counts, error-counts, counted-so, marks-so, in-turn-so, fit-last, rising-so, closing-so, finished-so,
+  covered-counts, open-counts, error-counts, counted-so, stands-so, marks-so, in-turn-so, rising-so, closing-so, finished-so,
 }
 use Rattle.promise.proofs.Spaces.{spaced-so, names-so, differs-so}
+use Rattle.promise.proofs.Leads.{led-so}
 
 -- ---- single calls on a fit state
 
@@ -112,7 +113,7 @@ module _ (C : Setting) (lawful : Lawful (C .family)) (accepted : Accepted (C .fa
         let opened : leaves (first C) turns .opened ≡ reports isGaveUp xs = counted-so C isGaveUp (λ s. s .opened) open-counts told ∙ omega arith in
         let in-turn : InTurn 0 (reportedAs isClosing none xs) = in-turn-so C none (λ x. clash x refl) told in
         let names : NamesFew (C .legs) (C .family .reach) 0 xs = names-so C lawful accepted told in
-        let last : Fit C (leaves (first C) turns) = fit-last C told in
+        let last : Fit C (leaves (first C) turns) = fit-last told in
         record {
           everyMarkMeets = meets-so C lawful accepted told;
           marksBegin = (drop (newMark C (leaves (first C) turns) (parted .0)) (planned C), parted .1);
@@ -122,6 +123,8 @@ module _ (C : Setting) (lawful : Lawful (C .family)) (accepted : Accepted (C .fa
           fewMovements = spaced-so C lawful accepted told;
           fewCordsNamed = names;
           fewCordsDiffer = differs-so (C .legs) (C .family .reach) xs 0 (C .family .home) (C .family .home) refl (omega (arith, differing-same (C .family .home))) names;
+          ordersLead = led-so C lawful accepted told;
+          markStands = stands-so told;
           panelIsCarried = carried-so C lawful accepted told;
           sameMarkAgain = again-so C lawful accepted false (0, 0) (λ x. clash x refl) (λ x. clash x refl) told;
           coveredReports = covered;
@@ -138,6 +141,7 @@ module _ (C : Setting) (lawful : Lawful (C .family)) (accepted : Accepted (C .fa
           suits = each (λ s t. Suits (t .call) (t .answered)) (λ s f c. suits-so (does-so C s f c));
           inShape = each (λ s t. (o : Order) → t .answered ≡ movement o → InShape (C .family .ports) o) (λ s f c o e. right-at s f c (movement o) e);
           refusals = each (λ s t. (k : ℕ) → (t .answered ≡ refusal k) ↔ Why C s (t .call) k) (λ s f c k. tells-refusal C s c k);
+          leftFit = last;
           neverUnfit = each (λ s t. t .answered ≢ refusal 15) (λ s f c e. right-at s f c (refusal 15) e refl);
           refusedLeaves = each (λ s t. (k : ℕ) → t .answered ≡ refusal k → t .left ≡ s) (λ s f c k e. ap (λ a. after C c a s) e);
         }

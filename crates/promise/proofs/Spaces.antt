@@ -12,25 +12,16 @@ use Rattle.listing.specs.Orders.{Order, carry}
 use Rattle.listing.proofs.Panels.{length-carry}
 use Rattle.listing.proofs.Moves.{differing-same, differing-by}
 use Rattle.promise.specs.Plan.{jacks, cords, Lawful, Leg, Accepted}
-use Rattle.promise.specs.Campaign.{State, Setting, toCome, here, todo}
+use Rattle.promise.specs.Campaign.{State, withPanel, Setting, todo}
 use Rattle.promise.specs.Fitness.{Fit}
 use Rattle.promise.specs.Bench.{Turn, Act, moves, meets, says, acts, Spaced, NamesFew, DiffersFew}
 use Rattle.promise.proofs.Tests.{clash}
 use Rattle.promise.proofs.Legs.{stepOf-number}
-use Rattle.promise.proofs.Ways.{Within, some-eq, way-step}
-use Rattle.promise.proofs.Steps.{moves-on, hands-out, ends, closes, errs, refuses, listed-here, coming-here, History, stop, then}
+use Rattle.promise.proofs.Ways.{some-eq}
+use Rattle.promise.proofs.Steps.{moves-on, hands-out, ends, closes, errs, refuses, coming-here, step-on, History, stop, then, fit-start}
 use Rattle.promise.proofs.Differing.{differing-order}
 
 module _ (C : Setting) (lawful : Lawful (C .family)) (accepted : Accepted (C .family) (C .legs)) where
-  fit-start : {s : State} {ts : List Turn} → History C s ts → Fit C s
-  fit-start (stop f) = f
-  fit-start (then f d h) = f
-
-  -- what is to come after the first order of what is to come
-  step-on : (s : State) → Fit C s → (o : Order) (os : List Order) → todo C s ≡ some (o ∷ os)
-      → (vs : List Order) × (toCome (C .family) (here C s) (s .step) (carry o (s .panel)) ≡ some vs) × Within os vs
-  step-on s f o os w = way-step (C .family) lawful (here C s) (s .step) (listed-here C lawful accepted s f) (s .panel) o os w
-
   -- ---- at most ports less one movements come without a mark between
 
   -- with n movements since the last mark there is room for what is to come; at a mark there are none
@@ -45,8 +36,8 @@ module _ (C : Setting) (lawful : Lawful (C .family)) (accepted : Accepted (C .fa
   unfolding acts Spaced Room
   spaced-from n r (stop f) = tt
   spaced-from {s} n r (then f (moves-on o os st en w) h) =
-      let v : (vs : List Order) × (toCome (C .family) (here C s) (s .step) (carry o (s .panel)) ≡ some vs) × Within os vs = step-on s f o os w in
-      (omega (arith, r .0 (o ∷ os) w), spaced-from (suc n) (λ us e. omega (arith, r .0 (o ∷ os) w, v .2 .few, ap length (some-eq (sym e ∙ v .1))), λ x. clash x st) h)
+      let v : todo C (withPanel (carry o (s .panel)) s) ≡ some os = step-on C lawful accepted s f o os w in
+      (omega (arith, r .0 (o ∷ os) w), spaced-from (suc n) (λ us e. omega (arith, r .0 (o ∷ os) w, ap length (some-eq (sym e ∙ v))), λ x. clash x st) h)
   spaced-from n r (then {t = t} f (hands-out st en w) h) = spaced-from 0 (room-first t (fit-start h)) h
   spaced-from n r (then f (ends en) h) = spaced-from n r h
   spaced-from n r (then {t = t} f (closes st ne x) h) = rw (r .1 st) (spaced-from 0 (room-first t (fit-start h)) h)
@@ -70,8 +61,8 @@ module _ (C : Setting) (lawful : Lawful (C .family)) (accepted : Accepted (C .fa
   unfolding acts NamesFew Slack cords
   names-from n r (stop f) = tt
   names-from {s} n r (then f (moves-on o os st en w) h) =
-      let v : (vs : List Order) × (toCome (C .family) (here C s) (s .step) (carry o (s .panel)) ≡ some vs) × Within os vs = step-on s f o os w in
-      names-from (n + length (jacks o)) (λ us e k. omega (arith, r .0 (o ∷ os) w k, v .2 .near, ap cords (some-eq (sym e ∙ v .1))), λ x. clash x st) h
+      let v : todo C (withPanel (carry o (s .panel)) s) ≡ some os = step-on C lawful accepted s f o os w in
+      names-from (n + length (jacks o)) (λ us e k. omega (arith, r .0 (o ∷ os) w k, ap cords (some-eq (sym e ∙ v))), λ x. clash x st) h
   names-from {s} n r (then {t = t} f (hands-out st en w) h) = (
     λ k. omega (arith, r .0 [] w (subst (λ z. 0 < z) (stepOf-number (C .legs) (s .leg) (s .step) (f .leg) (f .step)) k)),
     names-from 0 (slack-first t (fit-start h)) h,

@@ -19,10 +19,10 @@ use Rattle.promise.specs.Campaign.{
   Setting, first, toCome, here, rankOf, numberOf, wanted, todo, closedMarks, fit, next, offer, answer, closed, heard, after,
 }
 use Rattle.promise.specs.Fitness.{OnTheWay, Fit}
-use Rattle.promise.specs.Bench.{Turn, run, Each}
+use Rattle.promise.specs.Bench.{Turn, run, leaves, Each}
 use Rattle.promise.proofs.Tests.{clash}
 use Rattle.promise.proofs.Legs.{number-first, number-step, number-leg, number-last}
-use Rattle.promise.proofs.Ways.{Within, Coming, Listed, no-none, coming, way-first, way-found, found-way, way-step, way-over, way-done, way-on}
+use Rattle.promise.proofs.Ways.{Coming, Listed, no-none, coming, way-first, way-found, found-way, way-step, way-over, way-done, way-on}
 use Rattle.promise.proofs.Fitness.{tells-fit}
 
 -- ---- the relation
@@ -197,21 +197,22 @@ module _ (C : Setting) (lawful : Lawful (C .family)) (accepted : Accepted (C .fa
     between = λ st en. clash refl en;
   }
 
+  -- after the first order of what is to come the others are to come
+  pub step-on : (s : State) → Fit C s → (o : Order) (os : List Order) → todo C s ≡ some (o ∷ os) → todo C (withPanel (carry o (s .panel)) s) ≡ some os
+  step-on s f o os w = way-step (C .family) lawful (here C s) (s .step) (listed-here s f) (s .panel) o os w
+
   -- whatever a call does, a fit state is left fit
   pub fit-after : {s t : State} {c : Call} {a : Answer} → Fit C s → Does C s c a t → Fit C t
-  fit-after {s} f (moves-on o os st en w) =
-      let r : (vs : List Order) × (toCome (C .family) (here C s) (s .step) (carry o (s .panel)) ≡ some vs) × Within os vs =
-      way-step (C .family) lawful (here C s) (s .step) (listed-here s f) (s .panel) o os w in
-      record {
-        leg = f .leg;
-        step = f .step;
-        errors = f .errors;
-        counts = f .counts;
-        end = f .end;
-        atMark = λ x. clash x st;
-        atEnd = λ x. clash x en;
-        between = λ x y. found-way (C .family) (here C s) (s .step) (carry o (s .panel)) (r .0) (r .1);
-      }
+  fit-after {s} f (moves-on o os st en w) = record {
+    leg = f .leg;
+    step = f .step;
+    errors = f .errors;
+    counts = f .counts;
+    end = f .end;
+    atMark = λ x. clash x st;
+    atEnd = λ x. clash x en;
+    between = λ x y. found-way (C .family) (here C s) (s .step) (carry o (s .panel)) os (step-on s f o os w);
+  }
   fit-after {s} f (hands-out st en w) = record {
     leg = f .leg;
     step = f .step;
@@ -245,6 +246,16 @@ pub data History (C : Setting) : State → List Turn → Type 0 where
   stop : {s : State} → Fit C s → History C s []
   then : {s t : State} {c : Call} {a : Answer} {ts : List Turn} → Fit C s → Does C s c a t → History C t ts
       → History C s (record { call = c; answered = a; left = t } ∷ ts)
+
+-- it begins and stops in a fit state
+pub fit-start : {C : Setting} {s : State} {ts : List Turn} → History C s ts → Fit C s
+fit-start (stop f) = f
+fit-start (then f d h) = f
+
+pub fit-last : {C : Setting} {s : State} {ts : List Turn} → History C s ts → Fit C (leaves s ts)
+unfolding leaves
+fit-last (stop f) = f
+fit-last (then f d h) = fit-last h
 
 module _ (C : Setting) (lawful : Lawful (C .family)) (accepted : Accepted (C .family) (C .legs)) where
   -- the turns of any calls are a history

@@ -16,7 +16,7 @@ use Rattle.promise.specs.Campaign.{
   State, withPanel, withMark, placed, Word, ran, error, gaveUp, wordOf, isRan, isError, isGaveUp, tick, tallied, Setting, numberOf,
 }
 use Rattle.promise.specs.Fitness.{Fit}
-use Rattle.promise.specs.Bench.{Turn, leaves, Act, moves, meets, says, acts, isClosing, reports, reportedAs, Rising, InTurn}
+use Rattle.promise.specs.Bench.{Turn, leaves, Act, moves, meets, says, acts, stands, isClosing, reports, reportedAs, Rising, InTurn}
 use Rattle.promise.proofs.Tests.{clash}
 use Rattle.promise.proofs.Legs.{number-below}
 use Rattle.promise.proofs.Steps.{
@@ -59,6 +59,18 @@ module _ (C : Setting) (kind : Word → Bool) (count : State → ℕ) (counts : 
   counted-so {s} (then f (errs st lt) h) = omega (arith, counted-so h, counts .mark false (tallied error s), counts .adds error s)
   counted-so (then f (refuses k n) h) = counted-so h
 
+-- ---- the standing mark
+
+pub stands-so : {C : Setting} {s : State} {ts : List Turn} → History C s ts → leaves s ts .standing ≡ stands (s .standing) (acts ts)
+unfolding acts stands leaves
+stands-so (stop f) = refl
+stands-so (then f (moves-on o os st en w) h) = stands-so h
+stands-so (then f (hands-out st en w) h) = stands-so h
+stands-so (then f (ends en) h) = stands-so h
+stands-so (then {ts = ts} f (closes st ne x) h) = stands-so h ∙ ap (λ b. stands b (acts ts)) (closed-so x .standing)
+stands-so (then f (errs st lt) h) = stands-so h
+stands-so (then f (refuses k n) h) = stands-so h
+
 -- ---- reports are on the mark that stood
 
 one-report : (kind : Word → Bool) (w : Word) (standing : Option ℕ) (k : ℕ) (xs : List Act) → standing ≡ some k
@@ -100,12 +112,6 @@ module _ (C : Setting) where
   in-turn-so {s} o n (then {ts = ts} f (errs st lt) h) =
       subst (λ m. InTurn m (reportedAs isClosing none (acts ts))) (omega arith) (in-turn-so none (λ y. clash y refl) h)
   in-turn-so o n (then f (refuses k x) h) = in-turn-so o n h
-
-  -- a history stops in a fit state
-  pub fit-last : {s : State} {ts : List Turn} → History C s ts → Fit C (leaves s ts)
-  unfolding leaves
-  fit-last (stop f) = f
-  fit-last (then f d h) = fit-last h
 
 -- of marks that are closed in turn, those that were run rise: none is counted twice
 rising-later : (lo : ℕ) (ks : List ℕ) → Rising (suc lo) ks → Rising lo ks

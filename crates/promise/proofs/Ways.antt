@@ -1,22 +1,23 @@
 -- The orders still to come: the panels on their way, what they lead to, how many they are, and what is left after one of them is carried out.
 -- Assumes nothing.
-use mathlib.Core.Path.{_≡_, refl, sym, ap, _∙_, subst}
+use mathlib.Core.Path.{_≡_, refl, sym, ap, ap₂, _∙_, subst}
 use mathlib.Core.Logic.{_↔_}
 use mathlib.Core.Bool.{Bool, true, false, cond}
 use mathlib.Core.List.{List, [], _∷_, head-eq-of-cons-eq, tail-eq-of-cons-eq}
 use mathlib.Core.Option.{Option, none, some, orElse}
 use Prim.Native.Nat.{ℕ, zero, suc, _+_, _-_, _≤_, _<_}
 use native.Mathlib.Omega.{arith}
-use lib.ListN.{length, take}
+use lib.ListN.{length, getD, take, drop, length-drop, take-append-drop}
+use lib.Seq.{take-suc, drop-cons, take-length, drop-length}
 use Rattle.listing.specs.Pattern.{Permutation}
 use Rattle.listing.specs.Orders.{Order, carry, carryAll, AllInShape}
-use Rattle.listing.proofs.Numbers.{either, test}
+use Rattle.listing.proofs.Panels.{carryAll-append}
 use Rattle.promise.specs.Tests.{isPermutation, same}
 use Rattle.promise.specs.Carriage.{carriage}
-use Rattle.promise.specs.Plan.{cords, Family, Step, Lawful, Leg, rankAt}
+use Rattle.promise.specs.Plan.{cords, Passed, Straight, Family, Step, Lawful, Leg, rankAt}
 use Rattle.promise.specs.Campaign.{rest, toCome, found}
-use Rattle.promise.specs.Fitness.{Passed, OnTheWay}
-use Rattle.promise.proofs.Tests.{Tells, clash, fails, tells-permutation, tells-same, same-self}
+use Rattle.promise.specs.Fitness.{OnTheWay}
+use Rattle.promise.proofs.Tests.{Tells, clash, tells-permutation, tells-same, same-self}
 use Rattle.promise.proofs.Carriage.{First, carriage-first, carriage-reaches, carriage-few, carriage-shaped, carriage-still}
 
 -- ---- outcomes of a search
@@ -28,19 +29,6 @@ pub no-none : {A B : Type 0} {a : A} {o : Option A} → o ≡ none → o ≡ som
 no-none e f = absurd (let z : _≡_ {A = ℕ} 0 1 = cc in omega arith)
 
 -- ---- what is left of a list of orders
-
--- the orders vs are no more than the orders os: fewer or as many, with no more cords, and in shape where those are
-pub record Within (os vs : List Order) : Type 0 where
-  pub few : length vs ≤ length os
-  pub near : cords vs ≤ cords os
-  pub shaped : (n : ℕ) → AllInShape n os → AllInShape n vs
-
-within-all : (os : List Order) → Within os os
-within-all os = record { few = omega arith; near = omega arith; shaped = λ n s. s }
-
-within-later : (o : Order) (os vs : List Order) → Within os vs → Within (o ∷ os) vs
-unfolding cords
-within-later o os vs w = record { few = omega (arith, w .few); near = omega (arith, w .near); shaped = λ n s. w .shaped n (s .1) }
 
 -- where a panel is found on a way: further on, at its first panel, or nowhere
 data Spot (p : List ℕ) (o : Order) (os : List Order) (q : List ℕ) : Type 0 where
@@ -57,33 +45,27 @@ spot p o os q = go (rest (carry o p) os q) refl (same p q) refl
     go none e true f = at-first (tells-same p q .0 f) (rw (e, f))
     go none e false f = nowhere (rw (e, f))
 
-rest-end : (p q : List ℕ) (vs : List Order) → rest p [] q ≡ some vs → (p ≡ q) × ([] ≡ vs)
-unfolding rest
-rest-end p q vs h = go (same p q) refl h
-  where
-    go : (b : Bool) → same p q ≡ b → cond b (some []) none ≡ some vs → (p ≡ q) × ([] ≡ vs)
-    go true e f = (tells-same p q .0 e, some-eq f)
-    go false e f = no-none refl f
-
--- what is found is a rest of the way, and leads from the panel to the way's end
+-- what is found: the orders vs after the first i of os, which have led from p to q
 record Rest (p : List ℕ) (os : List Order) (q : List ℕ) (vs : List Order) : Type 0 where
-  leads : carryAll vs q ≡ carryAll os p
-  within : Within os vs
+  done : ℕ
+  within : done ≤ length os
+  panel : carryAll (take done os) p ≡ q
+  left : drop done os ≡ vs
 
-rest-leads : (p : List ℕ) (os : List Order) (q : List ℕ) (vs : List Order) → rest p os q ≡ some vs → Rest p os q vs
-unfolding carryAll
-rest-leads p [] q vs h =
-    let f : (p ≡ q) × ([] ≡ vs) = rest-end p q vs h in
-    rw (← f .1) (record { leads = sym (f .0); within = within-all [] })
-rest-leads p (o ∷ os) q vs h = go (rest-leads (carry o p) os q vs) (spot p o os q)
+rest-so : (p : List ℕ) (os : List Order) (q : List ℕ) (vs : List Order) → rest p os q ≡ some vs → Rest p os q vs
+unfolding rest carryAll
+rest-so p [] q vs h = by-test (same p q) refl h
+  where
+    by-test : (b : Bool) → same p q ≡ b → cond b (some []) none ≡ some vs → Rest p [] q vs
+    by-test true e f = record { done = 0; within = omega arith; panel = tells-same p q .0 e; left = some-eq f }
+    by-test false e f = no-none refl f
+rest-so p (o ∷ os) q vs h = go (rest-so (carry o p) os q vs) (spot p o os q)
   where
     go : (rest (carry o p) os q ≡ some vs → Rest (carry o p) os q vs) → Spot p o os q → Rest p (o ∷ os) q vs
     go later (further us e f) =
         let r : Rest (carry o p) os q vs = later (e ∙ sym f ∙ h) in
-        record { leads = r .leads; within = within-later o os vs (r .within) }
-    go later (at-first e f) =
-        let v : o ∷ os ≡ vs = some-eq (sym f ∙ h) in
-        rw (← v, ← e) (record { leads = refl; within = within-all (o ∷ os) })
+        record { done = suc (r .done); within = omega (arith, r .within); panel = r .panel; left = r .left }
+    go later (at-first e f) = record { done = 0; within = omega arith; panel = e; left = some-eq (sym f ∙ h) }
     go later (nowhere f) = no-none f h
 
 -- each panel on the way is found
@@ -100,45 +82,42 @@ rest-passed p (o ∷ os) q (suc i, h, e) =
     let r : (vs : List Order) × (rest (carry o p) os q ≡ some vs) = rest-passed (carry o p) os q (i, omega arith, e) in
     (r .0, rw (r .1))
 
--- and no other
-passed-rest : (p : List ℕ) (os : List Order) (q : List ℕ) (vs : List Order) → rest p os q ≡ some vs → Passed p os q
+-- on a way that passes no panel twice, after the first i orders the others are left
+rest-after : (p : List ℕ) (os : List Order) → Straight p os → (i : ℕ) → i ≤ length os → rest p os (carryAll (take i os) p) ≡ some (drop i os)
+rest-after p os straight i h =
+    let f : (vs : List Order) × (rest p os (carryAll (take i os) p) ≡ some vs) = rest-passed p os (carryAll (take i os) p) (i, h, refl) in
+    let r : Rest p os (carryAll (take i os) p) (f .0) = rest-so p os (carryAll (take i os) p) (f .0) (f .1) in
+    f .1 ∙ ap {B = Option (List Order)} some (sym (r .left) ∙ ap (λ j. drop j os) (straight (r .done) i (r .within) h (r .panel)))
+
+-- the first order of what is left, carried out, leaves the others
+rest-step : (p : List ℕ) (os : List Order) → Straight p os → (q : List ℕ) (w : Order) (ws : List Order) → rest p os q ≡ some (w ∷ ws) → rest p os (carry w q) ≡ some ws
 unfolding carryAll
-passed-rest p [] q vs h = (0, omega arith, rest-end p q vs h .0)
-passed-rest p (o ∷ os) q vs h = go (passed-rest (carry o p) os q vs) (spot p o os q)
-  where
-    go : (rest (carry o p) os q ≡ some vs → Passed (carry o p) os q) → Spot p o os q → Passed p (o ∷ os) q
-    go later (further us e f) = let r : Passed (carry o p) os q = later (e ∙ sym f ∙ h) in (suc (r .0), omega (arith, r .1), r .2)
-    go later (at-first e f) = (0, omega arith, e)
-    go later (nowhere f) = no-none f h
+rest-step p os straight q w ws h =
+    let r : Rest p os q (w ∷ ws) = rest-so p os q (w ∷ ws) h in
+    let more : r .done < length os = omega (arith, ap length (r .left), length-drop (r .done) os) in
+    let cut : w ∷ ws ≡ getD os (r .done) w ∷ drop (suc (r .done)) os = sym (r .left) ∙ drop-cons os (r .done) w more in
+    let moved : carryAll (take (suc (r .done)) os) p ≡ carry w q =
+    ap (λ l. carryAll l p) (take-suc os (r .done) w more) ∙ carryAll-append (take (r .done) os) (getD os (r .done) w ∷ []) p
+    ∙ ap₂ carry (sym (head-eq-of-cons-eq cut)) (r .panel) in
+    ap (rest p os) (sym moved) ∙ rest-after p os straight (suc (r .done)) more ∙ ap {B = Option (List Order)} some (sym (tail-eq-of-cons-eq cut))
 
--- at the way's end nothing is left
-rest-over : (p : List ℕ) (os : List Order) → rest p os (carryAll os p) ≡ some []
-unfolding rest orElse carryAll
-rest-over p [] = rw (same-self p)
-rest-over p (o ∷ os) = rw (rest-over (carry o p) os)
+-- what is left leads from the panel to the way's end
+rest-leads : (p : List ℕ) (os : List Order) (q : List ℕ) (vs : List Order) → Rest p os q vs → carryAll vs q ≡ carryAll os p
+rest-leads p os q vs r =
+    ap₂ carryAll (sym (r .left)) (sym (r .panel)) ∙ sym (carryAll-append (take (r .done) os) (drop (r .done) os) p)
+    ∙ ap (λ l. carryAll l p) (take-append-drop (r .done) os)
 
-rest-further : (p : List ℕ) (o : Order) (os : List Order) (q : List ℕ) (vs : List Order) → rest (carry o p) os q ≡ some vs → rest p (o ∷ os) q ≡ some vs
-unfolding rest orElse
-rest-further p o os q vs e = rw e
+-- later orders name no more cords and are in shape where all are
+cords-drop : (i : ℕ) (os : List Order) → cords (drop i os) ≤ cords os
+unfolding cords
+cords-drop zero os = omega arith
+cords-drop (suc i) [] = omega arith
+cords-drop (suc i) (o ∷ os) = omega (arith, cords-drop i os)
 
--- after the first order of what is left, no more than the others is left
-rest-step : (p : List ℕ) (os : List Order) (q : List ℕ) (w : Order) (ws : List Order) → rest p os q ≡ some (w ∷ ws)
-    → (vs : List Order) × (rest p os (carry w q) ≡ some vs) × Within ws vs
-unfolding carryAll
-rest-step p [] q w ws h = absurd (let z : _≡_ {A = ℕ} 0 1 = cc (rest-end p q (w ∷ ws) h .1) in omega arith)
-rest-step p (o ∷ os) q w ws h = go (rest-step (carry o p) os q w ws) (spot p o os q)
-  where
-    go : (rest (carry o p) os q ≡ some (w ∷ ws) → (vs : List Order) × (rest (carry o p) os (carry w q) ≡ some vs) × Within ws vs)
-        → Spot p o os q → (vs : List Order) × (rest p (o ∷ os) (carry w q) ≡ some vs) × Within ws vs
-    go later (further us e f) =
-        let r : (vs : List Order) × (rest (carry o p) os (carry w q) ≡ some vs) × Within ws vs = later (e ∙ sym f ∙ h) in
-        (r .0, rest-further p o os (carry w q) (r .0) (r .1), r .2)
-    go later (at-first e f) =
-        let v : o ∷ os ≡ w ∷ ws = some-eq (sym f ∙ h) in
-        let r : (vs : List Order) × (rest (carry o p) os (carry o p) ≡ some vs) = rest-passed (carry o p) os (carry o p) (0, omega arith, refl) in
-        let r2 : Rest (carry o p) os (carry o p) (r .0) = rest-leads (carry o p) os (carry o p) (r .0) (r .1) in
-        rw (← e, ← head-eq-of-cons-eq v, ← tail-eq-of-cons-eq v) (r .0, rest-further p o os (carry o p) (r .0) (r .1), r2 .within)
-    go later (nowhere f) = no-none f h
+shaped-drop : (n i : ℕ) (os : List Order) → AllInShape n os → AllInShape n (drop i os)
+shaped-drop n zero os h = h
+shaped-drop n (suc i) [] h = tt
+shaped-drop n (suc i) (o ∷ os) h = shaped-drop n i os (h .1)
 
 -- ---- what is to come before a mark
 
@@ -167,7 +146,10 @@ way-found F l (suc k) q h = rest-passed (F .pattern (rankAt F l k)) (F .orders (
 pub found-way : (F : Family) (l : Leg) (k : ℕ) (q : List ℕ) (vs : List Order) → toCome F l k q ≡ some vs → OnTheWay F l k q
 unfolding OnTheWay toCome
 found-way F l zero q vs h = way-carriage F l q vs h .0
-found-way F l (suc k) q vs h = passed-rest (F .pattern (rankAt F l k)) (F .orders (l .back) (rankAt F l k)) q vs h
+found-way F l (suc k) q vs h =
+    let r : Rest (F .pattern (rankAt F l k)) (F .orders (l .back) (rankAt F l k)) q vs =
+    rest-so (F .pattern (rankAt F l k)) (F .orders (l .back) (rankAt F l k)) q vs h in
+    (r .done, r .within, r .panel)
 
 pub tells-way : (F : Family) (l : Leg) (k : ℕ) (q : List ℕ) → Tells (found (toCome F l k q)) (OnTheWay F l k q)
 tells-way F l k q = (λ e. there (toCome F l k q) refl e, λ h. rw (way-found F l k q h .1))
@@ -208,25 +190,29 @@ module _ (F : Family) (lawful : Lawful F) (l : Leg) where
       })
   coming (suc k) listed q vs h =
       let i : Step F (l .back) (rankAt F l k) = inner k listed in
-      let r : Rest (F .pattern (rankAt F l k)) (F .orders (l .back) (rankAt F l k)) q vs =
-      rest-leads (F .pattern (rankAt F l k)) (F .orders (l .back) (rankAt F l k)) q vs h in
+      let os : List Order = F .orders (l .back) (rankAt F l k) in
+      let r : Rest (F .pattern (rankAt F l k)) os q vs = rest-so (F .pattern (rankAt F l k)) os q vs h in
       record {
-        leads = r .leads ∙ i .leads;
-        few = omega (arith, r .within .few, i .few);
-        near = λ b. omega (arith, r .within .near, i .near);
-        shaped = r .within .shaped (F .ports) (i .shaped);
+        leads = rest-leads (F .pattern (rankAt F l k)) os q vs r ∙ i .leads;
+        few = omega (arith, ap length (r .left), length-drop (r .done) os, i .few);
+        near = λ b. omega (arith, ap cords (r .left), cords-drop (r .done) os, i .near);
+        shaped = subst (AllInShape (F .ports)) (r .left) (shaped-drop (F .ports) (r .done) os (i .shaped));
       }
 
-  -- after the first of them, no more than the others is to come
-  pub way-step : (k : ℕ) → Listed F l k → (q : List ℕ) (o : Order) (os : List Order) → toCome F l k q ≡ some (o ∷ os)
-      → (vs : List Order) × (toCome F l k (carry o q) ≡ some vs) × Within os vs
+  -- after the first of them the others are to come
+  pub way-step : (k : ℕ) → Listed F l k → (q : List ℕ) (o : Order) (os : List Order) → toCome F l k q ≡ some (o ∷ os) → toCome F l k (carry o q) ≡ some os
   unfolding toCome
   way-step zero listed q o os h =
       let t : List ℕ = F .pattern (rankAt F l 0) in
       let c : Permutation (F .ports) q × (carriage q t ≡ o ∷ os) = way-carriage F l q (o ∷ os) h in
       let f : First (F .ports) q t o os = carriage-first (F .ports) q t (c .0) (wanted-permutation 0 listed) o os (c .1) in
-      (os, way-first F l (carry o q) (f .permutation) ∙ ap {B = Option (List Order)} some (f .afterwards), within-all os)
-  way-step (suc k) listed q o os h = rest-step (F .pattern (rankAt F l k)) (F .orders (l .back) (rankAt F l k)) q o os h
+      way-first F l (carry o q) (f .permutation) ∙ ap {B = Option (List Order)} some (f .afterwards)
+  way-step (suc k) listed q o os h = rest-step (F .pattern (rankAt F l k)) (F .orders (l .back) (rankAt F l k)) (inner k listed .straight) q o os h
+
+  -- from the last mark's pattern all the family's orders are to come
+  pub way-next : (k : ℕ) → Listed F l (suc k) → toCome F l (suc k) (F .pattern (rankAt F l k)) ≡ some (F .orders (l .back) (rankAt F l k))
+  unfolding toCome carryAll
+  way-next k listed = rest-after (F .pattern (rankAt F l k)) (F .orders (l .back) (rankAt F l k)) (inner k listed .straight) 0 (omega arith)
 
   -- at the mark's pattern nothing is to come
   pub way-over : (k : ℕ) → Listed F l k → toCome F l k (F .pattern (rankAt F l k)) ≡ some []
@@ -234,7 +220,10 @@ module _ (F : Family) (lawful : Lawful F) (l : Leg) where
   way-over zero listed =
       let t : List ℕ = F .pattern (rankAt F l 0) in
       way-first F l t (wanted-permutation 0 listed) ∙ ap {B = Option (List Order)} some (carriage-still t)
-  way-over (suc k) listed = rw (← (inner k listed .leads)) (rest-over (F .pattern (rankAt F l k)) (F .orders (l .back) (rankAt F l k)))
+  way-over (suc k) listed =
+      let os : List Order = F .orders (l .back) (rankAt F l k) in
+      ap (rest (F .pattern (rankAt F l k)) os) (sym (inner k listed .leads) ∙ ap (λ vs. carryAll vs (F .pattern (rankAt F l k))) (sym (take-length os)))
+      ∙ rest-after (F .pattern (rankAt F l k)) os (inner k listed .straight) (length os) (omega arith) ∙ ap {B = Option (List Order)} some (drop-length os)
 
   -- and where nothing is to come the panel has the mark's pattern
   pub way-done : (k : ℕ) → Listed F l k → (q : List ℕ) → toCome F l k q ≡ some [] → q ≡ F .pattern (rankAt F l k)

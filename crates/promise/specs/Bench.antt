@@ -10,7 +10,8 @@ use lib.Dec.{eqb}
 use lib.ListN.{length}
 use Rattle.listing.specs.Pattern.{differing}
 use Rattle.listing.specs.Orders.{Order, carry}
-use Rattle.promise.specs.Plan.{Family, Leg, jacks, ranks, marks, stepOf}
+use Rattle.promise.specs.Carriage.{carriage}
+use Rattle.promise.specs.Plan.{jacks, Family, Leg, rankAt, ranks, marks, stepOf, legOf}
 use Rattle.promise.specs.Campaign.{
   State, Call, request, report, Word, wordOf, isError, tick, Answer, movement, mark, theEnd, taken, refusal, Setting, answer, after,
 }
@@ -124,6 +125,13 @@ Again again m (says w ∷ xs) = Again (isError w) m xs
 
 -- ---- reports
 
+-- whether a mark stands: from when it is handed out until its report (b: whether one stood before)
+unfoldable pub stands : Bool → List Act → Bool
+stands b [] = b
+stands b (moves o ∷ xs) = stands b xs
+stands b (meets k r ∷ xs) = stands true xs
+stands b (says w ∷ xs) = stands false xs
+
 -- the words that close a mark
 abbrev pub isClosing : Word → Bool
 isClosing w = not (isError w)
@@ -165,6 +173,19 @@ Spaced most n [] = Unit {0}
 Spaced most n (moves o ∷ xs) = (n < most) × Spaced most (suc n) xs
 Spaced most n (meets k r ∷ xs) = Spaced most 0 xs
 Spaced most n (says w ∷ xs) = Spaced most n xs
+
+-- the orders that lead to the mark at step k of leg l from the panel at the mark before: 'before a leg's first mark the panel is carried there', 'inside a
+-- leg, the orders are the one move to the neighbour'
+abbrev pub leadTo : Family → Leg → ℕ → List ℕ → List Order
+leadTo F l zero last = carriage last (F .pattern (rankAt F l 0))
+leadTo F l (suc k) last = F .orders (l .back) (rankAt F l k)
+
+-- at each mark that is no repeat after an error (again), the orders os since the mark before are those that lead there (last: the panel at that mark; p: now)
+unfoldable pub Led : Setting → Bool → List Order → List ℕ → List ℕ → List Act → Type 0
+Led C again os last p [] = Unit {0}
+Led C again os last p (moves o ∷ xs) = Led C again (os ++ (o ∷ [])) last (carry o p) xs
+Led C again os last p (meets k r ∷ xs) = (again ≡ false → os ≡ leadTo (C .family) (legOf (C .legs) k) (stepOf (C .legs) k) last) × Led C false [] p p xs
+Led C again os last p (says w ∷ xs) = Led C (isError w) os last p xs
 
 -- at a mark that is not its leg's first, the orders since the last mark name at most reach cords (n: those named since)
 unfoldable pub NamesFew : List Leg → ℕ → ℕ → List Act → Type 0

@@ -11,10 +11,10 @@ use Rattle.listing.specs.Pattern.{Derangement}
 use Rattle.listing.specs.Orders.{Order, InShape}
 use Rattle.promise.specs.Plan.{Family, marks}
 use Rattle.promise.specs.Campaign.{State, isRan, isError, isGaveUp, movement, refusal, Setting, first}
-use Rattle.promise.specs.Fitness.{Why}
+use Rattle.promise.specs.Fitness.{Fit, Why}
 use Rattle.promise.specs.Bench.{
-  Turn, leaves, Each, Act, acts, bench, Meets, marksMet, panelsMet, planned, Begins, Again, isClosing, reports, reportedAs, Rising, InTurn,
-  Spaced, NamesFew, DiffersFew, Suits, EndRight,
+  Turn, leaves, Each, Act, acts, bench, Meets, marksMet, panelsMet, planned, Begins, Again, stands, isClosing, reports, reportedAs, Rising, InTurn,
+  Spaced, Led, NamesFew, DiffersFew, Suits, EndRight,
 }
 
 -- 'Take any accepted plan and any calls, each on the state the last one left, and carry out the orders on a panel that starts at home.' Of the turns ts of
@@ -41,6 +41,12 @@ pub record Demanded (C : Setting) (ts : List Turn) (xs : List Act) (s : State) :
 
   -- 'A movement order handed out counts as carried out in the state's panel': the panel of the bench is the state's
   pub panelIsCarried : bench (C .family .home) xs ≡ s .panel
+
+  -- 'Before a leg's first mark the panel is carried there ..': 'Inside a leg, the orders are the one move to the neighbour': exactly these orders come
+  pub ordersLead : Led C false [] (C .family .home) (C .family .home) xs
+
+  -- 'A standing mark takes one report': a mark stands from when it is handed out until its report
+  pub markStands : s .standing ≡ stands false xs
 
   -- 'Error adds one to errors, and the same mark, with its number, is what the next request gives': no order comes between
   pub sameMarkAgain : Again false (0, 0) xs
@@ -70,7 +76,8 @@ pub record Demanded (C : Setting) (ts : List Turn) (xs : List Act) (s : State) :
   -- each refusal is given exactly when the paper says, 'For the campaign: 15 first, then 14, 12, 13, 16, last 2'
   pub refusals : Each (λ s t. (k : ℕ) → (t .answered ≡ refusal k) ↔ Why C s (t .call) k) (first C) ts
 
-  -- 'No state that calls on an accepted plan leave is refused with 15'
+  -- 'No state that calls on an accepted plan leave is refused with 15': no call was, and the next will not be
+  pub leftFit : Fit C s
   pub neverUnfit : Each (λ s t. t .answered ≢ refusal 15) (first C) ts
 
   -- 'Buffers and state stay': a refused call leaves the state as it was

@@ -4,15 +4,10 @@ use Prim.Native.Nat.{ℕ, zero, suc, _+_, _≤_, _<_}
 use mathlib.Core.Path.{_≡_}
 use mathlib.Core.Bool.{Bool, true, false}
 use mathlib.Core.List.{List}
-use lib.ListN.{length, take}
+use lib.ListN.{length}
 use Rattle.listing.specs.Pattern.{Permutation}
-use Rattle.listing.specs.Orders.{Order, carryAll}
-use Rattle.promise.specs.Plan.{Family, Leg, rankAt}
+use Rattle.promise.specs.Plan.{Passed, Family, Leg, rankAt}
 use Rattle.promise.specs.Campaign.{State, Setting, Call, request, report, here, wanted, closedMarks, offer}
-
--- q is a panel on the way of the orders os from p: p after the first i of them
-abbrev pub Passed : List ℕ → List Order → List ℕ → Type 0
-Passed p os q = (i : ℕ) × (i ≤ length os) × (carryAll (take i os) p ≡ q)
 
 -- the panel may stand before the mark at step k of leg l: 'any permutation before a leg's first mark; later in a leg the last mark's pattern, that pattern
 -- after the first of two swaps, or the wanted one', that is, a panel on the way of the family's orders

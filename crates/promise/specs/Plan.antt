@@ -5,7 +5,7 @@ use mathlib.Core.Path.{_≡_}
 use mathlib.Core.Bool.{Bool, true, false, cond}
 use mathlib.Core.List.{List, [], _∷_, _++_}
 use lib.Dec.{leb}
-use lib.ListN.{length}
+use lib.ListN.{length, take}
 use Rattle.listing.specs.Numbers.{before, is}
 use Rattle.listing.specs.Pattern.{Permutation, Derangement}
 use Rattle.listing.specs.Orders.{Order, swap, turn, carryAll, AllInShape}
@@ -22,6 +22,14 @@ unfoldable pub cords : List Order → ℕ
 cords [] = 0
 cords (o ∷ os) = length (jacks o) + cords os
 
+-- q is a panel on the way of the orders os from p: p after the first i of them
+abbrev pub Passed : List ℕ → List Order → List ℕ → Type 0
+Passed p os q = (i : ℕ) × (i ≤ length os) × (carryAll (take i os) p ≡ q)
+
+-- no panel comes twice on that way
+abbrev pub Straight : List ℕ → List Order → Type 0
+Straight p os = (i j : ℕ) → i ≤ length os → j ≤ length os → carryAll (take i os) p ≡ carryAll (take j os) p → i ≡ j
+
 -- ---- families
 
 -- A listed family of patterns: its ports, how many patterns it lists, the panel's home, the pattern of each rank, the neighbour of a rank (backward or not),
@@ -35,9 +43,10 @@ pub record Family : Type 0 where
   pub orders : Bool → ℕ → List Order
   pub reach : ℕ
 
--- the orders from rank r to its neighbour lead there, are at most ports less one, name at most reach cords and are in shape
+-- the orders from rank r to its neighbour lead there and pass no panel twice, are at most ports less one, name at most reach cords and are in shape
 pub record Step (F : Family) (back : Bool) (r : ℕ) : Type 0 where
   pub leads : carryAll (F .orders back r) (F .pattern r) ≡ F .pattern (F .neighbour back r)
+  pub straight : Straight (F .pattern r) (F .orders back r)
   pub few : length (F .orders back r) ≤ F .ports - 1
   pub near : cords (F .orders back r) ≤ F .reach
   pub shaped : AllInShape (F .ports) (F .orders back r)
@@ -105,6 +114,11 @@ number (l ∷ ls) (suc i) k = suc (l .run) + number ls i k
 unfoldable pub stepOf : List Leg → ℕ → ℕ
 stepOf [] m = 0
 stepOf (l ∷ ls) m = cond (leb m (l .run)) m (stepOf ls (m - suc (l .run)))
+
+-- the leg of the mark with number m
+unfoldable pub legOf : List Leg → ℕ → Leg
+legOf [] m = legAt [] 0
+legOf (l ∷ ls) m = cond (leb m (l .run)) l (legOf ls (m - suc (l .run)))
 
 -- an accepted plan: at least one leg, and every rank that a leg names is in the family's list
 pub record Accepted (F : Family) (legs : List Leg) : Type 0 where
