@@ -18,6 +18,7 @@ use Rattle.listing.proofs.Ranks.{at-derangement, at-rank, rank-below, at-once}
 use Rattle.listing.proofs.Ends.{at-home}
 use Rattle.listing.proofs.Moves.{orders-shaped}
 use Rattle.listing.proofs.Neighbours.{next-leads, previous-leads}
+use Rattle.listing.proofs.OneMove.{one-move}
 use Rattle.promise.specs.Plan.{cords, Lawful, Circuit, Leg, legAt}
 use Rattle.promise.specs.Campaign.{Call, Answer, first}
 use Rattle.promise.specs.Bench.{run, leaves, acts}
@@ -49,7 +50,8 @@ module _ (m : ℕ) where
   abbrev n : ℕ
   n = suc (suc m)
 
-  beside-leads : (back : Bool) (r : ℕ) → r < count n → Leads n (moveBeside n back r) (at n r) (at n (rankBeside n back r))
+  -- the move beside leads from rank to rank
+  pub beside-leads : (back : Bool) (r : ℕ) → r < count n → Leads n (moveBeside n back r) (at n r) (at n (rankBeside n back r))
   beside-leads false r h = next-leads m r h
   beside-leads true r h = previous-leads m r h
 
@@ -80,6 +82,12 @@ module _ (m : ℕ) where
     each = λ p d. (rank n p, rank-below n p d, at-rank n p d);
     apart = at-once n;
   }
+
+  -- 'The list decides': whatever move in the paper's form makes the neighbour's pattern of a rank's, its orders are those that the campaign hands out, backward
+  -- as forward
+  pub list-decides : (back : Bool) (r : ℕ) → r < count n → (v : Move) → Leads n v (at n r) (at n (rankBeside n back r)) → orders v ≡ derangements n .orders back r
+  unfolding derangements
+  list-decides back r h v l = ap orders (one-move (at-derangement n r h .permutation) l (beside-leads back r h))
 
   -- ---- demand three on n ports
 

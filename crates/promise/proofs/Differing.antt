@@ -12,7 +12,7 @@ use Rattle.listing.specs.Pattern.{entry, differing}
 use Rattle.listing.specs.Orders.{Order, swap, turn, carry}
 use Rattle.listing.proofs.Numbers.{either, same?}
 use Rattle.listing.proofs.Panels.{same-entries, length-carry, entry-carry}
-use Rattle.listing.proofs.Renamed.{source-unnamed}
+use Rattle.listing.proofs.Sources.{source-unnamed}
 use Rattle.listing.proofs.Moves.{differing-same, differing-by, differing-set}
 use Rattle.promise.specs.Plan.{jacks}
 

@@ -6,23 +6,13 @@ use mathlib.Core.List.{List}
 use Prim.Native.Nat.{ℕ, zero, suc, _≤_, _<_}
 use native.Mathlib.Omega.{arith}
 use lib.ListN.{length, take}
-use Rattle.listing.specs.Numbers.{Among, is}
+use Rattle.listing.specs.Numbers.{Among}
 use Rattle.listing.specs.Pattern.{entry, Permutation}
-use Rattle.listing.specs.Orders.{Order, swap, turn, source, carry, carryAll, InShape, Move, nothing, one, two, orders, InForm}
-use Rattle.listing.proofs.Numbers.{either, below?, is-same}
+use Rattle.listing.specs.Orders.{Order, swap, turn, carry, carryAll, InShape, Move, nothing, one, two, orders, InForm}
+use Rattle.listing.proofs.Numbers.{either, below?}
 use Rattle.listing.proofs.Panels.{length-carry, entry-carry}
-use Rattle.listing.proofs.Sources.{carry-permutation}
-use Rattle.listing.proofs.Renamed.{source-unnamed}
+use Rattle.listing.proofs.Sources.{source-unnamed, swap-first, turn-first, carry-permutation}
 use Rattle.promise.specs.Plan.{Straight}
-
--- the first jack that an order names gets the port of the second
-first-source : (a b : ℕ) → source (swap a b) a ≡ b
-unfolding source
-first-source a b = is-same a a b (is a b a a) refl
-
-first-turned : (a b c : ℕ) → source (turn a b c) a ≡ b
-unfolding source
-first-turned a b c = is-same a a b (is a b c (is a c a a)) refl
 
 -- where jack a gets the port of jack b the panel is another
 away : (n : ℕ) (p q : List ℕ) (a b : ℕ) → Permutation n p → Among n a → Among n b → a ≢ b → entry q a ≡ entry p b → p ≢ q
@@ -31,10 +21,10 @@ away n p q a b P ha hb ne src e = ne (P .apart a b ha hb (ap (λ l. entry l a) e
 away-order : (n : ℕ) (o : Order) (p : List ℕ) → InShape n o → Permutation n p → p ≢ carry o p
 away-order n (swap a b) p s P =
     away n p (carry (swap a b) p) a b P (omega arith) (omega arith) (omega arith)
-    (entry-carry (swap a b) p a (omega (arith, P .long)) ∙ ap (entry p) (first-source a b))
+    (entry-carry (swap a b) p a (omega (arith, P .long)) ∙ ap (entry p) (swap-first a b))
 away-order n (turn a b c) p s P =
     away n p (carry (turn a b c) p) a b P (omega arith) (omega arith) (omega arith)
-    (entry-carry (turn a b c) p a (omega (arith, P .long)) ∙ ap (entry p) (first-turned a b c))
+    (entry-carry (turn a b c) p a (omega (arith, P .long)) ∙ ap (entry p) (turn-first a b c))
 
 -- two swaps on four different jacks: the second leaves the first jack as it is
 away-two : (n a b c d : ℕ) (p : List ℕ) → InForm n (two a b c d) → Permutation n p → p ≢ carry (swap c d) (carry (swap a b) p)
@@ -43,7 +33,7 @@ away-two n a b c d p f P =
     let long : length q ≡ length p = length-carry (swap a b) p in
     away n p (carry (swap c d) q) a b P (omega arith) (omega arith) (omega arith)
     (entry-carry (swap c d) q a (omega (arith, P .long)) ∙ ap (entry q) (source-unnamed (swap c d) a (omega arith))
-    ∙ entry-carry (swap a b) p a (omega (arith, P .long)) ∙ ap (entry p) (first-source a b))
+    ∙ entry-carry (swap a b) p a (omega (arith, P .long)) ∙ ap (entry p) (swap-first a b))
 
 straight-by : (p : List ℕ) (os : List Order) → ((i j : ℕ) → i < j → j ≤ length os → carryAll (take i os) p ≢ carryAll (take j os) p) → Straight p os
 straight-by p os h i j hi hj e =
