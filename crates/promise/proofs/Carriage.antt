@@ -6,12 +6,11 @@ use mathlib.Core.Logic.{_≢_, _↔_}
 use mathlib.Core.List.{List, [], _∷_, head-eq-of-cons-eq, tail-eq-of-cons-eq}
 use Prim.Native.Nat.{ℕ, zero, suc, _+_, _-_, _≤_, _<_}
 use native.Mathlib.Omega.{arith}
-use lib.Dec.{eqb}
 use lib.ListN.{length}
 use borrow.Author.Tests.{eq-eqb, ne-eqb}
 use Rattle.listing.specs.Numbers.{Among}
 use Rattle.listing.specs.Pattern.{entry, Permutation}
-use Rattle.listing.specs.Orders.{Order, swap, source, carry, carryAll, InShape, AllInShape}
+use Rattle.listing.specs.Orders.{Order, carry, carryAll, InShape, AllInShape}
 use Rattle.listing.proofs.Numbers.{either, below?, same?}
 use Rattle.listing.proofs.Panels.{same-entries, entry-carry}
 use Rattle.listing.proofs.Sources.{by-swap, carry-permutation}

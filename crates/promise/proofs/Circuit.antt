@@ -5,16 +5,16 @@ use mathlib.Core.Path.{_≡_, refl, sym, ap, ap₂, _∙_, subst}
 use mathlib.Core.Bool.{Bool, true, false, cond, _&&_}
 use mathlib.Core.Logic.{_⊎_, inl, inr}
 use mathlib.Core.List.{List, [], _∷_, append-nil, map}
-use Prim.Native.Nat.{ℕ, zero, suc, _+_, _-_, _≤_, _<_}
+use Prim.Native.Nat.{ℕ, zero, suc, _+_, _-_, _<_}
 use native.Mathlib.Omega.{arith}
-use lib.ListN.{length, getD, length-map, List·getD-map}
-use Rattle.listing.specs.Numbers.{before, is}
+use lib.ListN.{length, getD, length-map}
+use Rattle.listing.specs.Numbers.{before}
 use Rattle.listing.specs.Pattern.{Derangement}
 use Rattle.listing.specs.Orders.{carry}
 use Rattle.listing.proofs.Numbers.{either, below?, is-cases, suc-before}
 use Rattle.promise.specs.Plan.{Family, Lawful, Circuit, Leg, legAt, Accepted, stepped, walk, ranks}
-use Rattle.promise.specs.Campaign.{State, Call, Setting, first, isError}
-use Rattle.promise.specs.Bench.{run, leaves, Act, moves, meets, says, acts, Meets, isMark, fresh, shown, marksMet, panelsMet, numbered, planned}
+use Rattle.promise.specs.Campaign.{Call, Setting, first, isError}
+use Rattle.promise.specs.Bench.{run, leaves, Act, moves, meets, says, acts, Meets, isMark, fresh, shown, panelsMet, numbered}
 use Rattle.promise.specs.Demand.{Demand, Once, FullCircuit}
 use Rattle.promise.proofs.Legs.{length-walk, walk-at}
 use Rattle.promise.proofs.Promise.{promise}

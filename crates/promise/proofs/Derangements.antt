@@ -1,12 +1,12 @@
 -- The list of document 000 is a lawful family and a circuit of all derangements, for every number of ports from 2 on: so demand three holds of it outright.
 -- Assumes nothing.
-use mathlib.Core.Path.{_≡_, refl, sym, ap, _∙_, subst}
+use mathlib.Core.Path.{_≡_, refl, ap, subst}
 use mathlib.Core.Bool.{Bool, true, false}
 use mathlib.Core.List.{List, [], _∷_}
-use Prim.Native.Nat.{ℕ, zero, suc, _+_, _-_, _≤_, _<_}
+use Prim.Native.Nat.{ℕ, suc, _-_, _≤_, _<_}
 use native.Mathlib.Omega.{arith}
 use lib.ListN.{length}
-use Rattle.listing.specs.Pattern.{Permutation, Derangement}
+use Rattle.listing.specs.Pattern.{Permutation}
 use Rattle.listing.specs.Count.{count}
 use Rattle.listing.specs.Listing.{at}
 use Rattle.listing.specs.Rank.{rank}

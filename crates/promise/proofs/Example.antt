@@ -4,7 +4,6 @@ use mathlib.Core.Path.{_≡_, refl}
 use mathlib.Core.Bool.{true, false}
 use mathlib.Core.List.{List, [], _∷_, map}
 use mathlib.Core.Option.{orElse}
-use Prim.Native.Nat.{ℕ}
 use Rattle.listing.specs.Numbers.{is, trade, raise, lower, odd}
 use Rattle.listing.specs.Pattern.{tabulate}
 use Rattle.listing.specs.Count.{count}

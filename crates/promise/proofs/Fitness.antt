@@ -3,13 +3,12 @@
 use mathlib.Core.Path.{_≡_, refl}
 use mathlib.Core.Logic.{_⊎_, inl, inr}
 use mathlib.Core.Bool.{Bool, true, false, not, _&&_, _||_}
-use Prim.Native.Nat.{ℕ, suc, _+_, _≤_, _<_}
-use lib.Dec.{eqb, leb, ltb}
+use Prim.Native.Nat.{suc, _+_}
+use lib.Dec.{eqb}
 use lib.ListN.{length}
 use Rattle.listing.proofs.Numbers.{either}
-use Rattle.promise.specs.Tests.{implies, same}
-use Rattle.promise.specs.Campaign.{State, Setting, here, wanted, todo, closedMarks, found, fit}
-use Rattle.promise.specs.Fitness.{OnTheWay, Fit}
+use Rattle.promise.specs.Campaign.{State, Setting, here, wanted, closedMarks, fit}
+use Rattle.promise.specs.Fitness.{Fit}
 use Rattle.promise.proofs.Tests.{Tells, clash, tells-eqb, tells-leb, tells-ltb, tells-true, tells-not, tells-and, tells-implies, tells-same}
 use Rattle.promise.proofs.Ways.{tells-way}
 

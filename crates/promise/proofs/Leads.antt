@@ -1,18 +1,16 @@
 -- Between marks exactly the orders come that lead there: the carriage before a leg's first mark, inside a leg the family's orders to the neighbour.
 -- Assumes nothing.
-use mathlib.Core.Path.{_≡_, refl, sym, ap, ap₂, _∙_, subst}
+use mathlib.Core.Path.{_≡_, refl, sym, ap, ap₂, _∙_}
 use mathlib.Core.Bool.{Bool, true, false}
 use mathlib.Core.List.{List, [], _∷_, _++_, append-nil}
 use mathlib.Core.Option.{some}
-use Prim.Native.Nat.{ℕ, suc, _≤_, _<_}
+use Prim.Native.Nat.{ℕ, suc, _<_}
 use native.Mathlib.Omega.{arith}
 use lib.ListN.{length}
 use lib.Seq.{append-snoc}
-use Rattle.listing.specs.Pattern.{Permutation}
 use Rattle.listing.specs.Orders.{Order}
-use Rattle.promise.specs.Carriage.{carriage}
 use Rattle.promise.specs.Plan.{Lawful, Accepted}
-use Rattle.promise.specs.Campaign.{State, Setting, first, here, rankOf, wanted, todo, toCome}
+use Rattle.promise.specs.Campaign.{State, Setting, first, here, wanted, todo, toCome}
 use Rattle.promise.specs.Fitness.{Fit, OnTheWay}
 use Rattle.promise.specs.Bench.{Turn, Act, acts, leadTo, Led}
 use Rattle.promise.proofs.Tests.{clash}

@@ -9,9 +9,8 @@ use native.Mathlib.Omega.{arith}
 use lib.Dec.{eqb}
 use lib.ListN.{length, getD, drop}
 use lib.Seq.{drop-length}
-use Rattle.listing.specs.Orders.{Order}
 use Rattle.promise.specs.Plan.{Lawful, Accepted, ranks, marks, number}
-use Rattle.promise.specs.Campaign.{State, withMark, wordOf, isError, tallied, error, Setting, here, rankOf, numberOf, todo}
+use Rattle.promise.specs.Campaign.{State, withMark, tallied, error, Setting, here, rankOf, numberOf, todo}
 use Rattle.promise.specs.Fitness.{Fit}
 use Rattle.promise.specs.Bench.{Turn, leaves, acts, bench, Meets, isMark, fresh, numbered, planned, Again}
 use Rattle.promise.proofs.Tests.{clash, tells-eqb, tells-and}

@@ -1,11 +1,11 @@
 -- Every order, mark and closing report brings the end nearer, and an error puts it off by one mark: so calls that are not refused reach the end, after
 -- callsToEnd of them and two more for each error.
 -- Assumes nothing.
-use mathlib.Core.Path.{_≡_, refl, sym, ap, _∙_, subst}
+use mathlib.Core.Path.{_≡_, refl, sym, ap, _∙_}
 use mathlib.Core.Logic.{_≢_}
 use mathlib.Core.Bool.{Bool, true, false, cond}
 use mathlib.Core.List.{List, [], _∷_}
-use mathlib.Core.Option.{Option, none, some}
+use mathlib.Core.Option.{Option, some}
 use Prim.Native.Nat.{ℕ, zero, suc, _+_, _-_, _*_, _≤_, _<_}
 use native.Mathlib.Omega.{arith}
 use lib.ListN.{length}
@@ -13,17 +13,17 @@ use Rattle.listing.specs.Orders.{Order, carry}
 use Rattle.listing.proofs.Numbers.{either, test}
 use Rattle.promise.specs.Plan.{Lawful, Accepted, marks, number}
 use Rattle.promise.specs.Campaign.{
-  State, withPanel, withMark, Call, request, report, wordOf, isError, error, tick, tallied, Answer, movement, mark, theEnd, taken, refusal, Setting, first, toCome,
+  State, withPanel, withMark, Call, request, report, wordOf, isError, error, tick, tallied, Answer, movement, mark, theEnd, taken, refusal, Setting, first,
   here, numberOf, todo, offer, answer, after,
 }
 use Rattle.promise.specs.Fitness.{Fit}
 use Rattle.promise.specs.Bench.{Turn, run, leaves, Act, inFront, acts, reports}
-use Rattle.promise.specs.Progress.{perMark, callsToEnd, howMany, work, bringsOn, broughtOn, Unrefused, dueCall, promptly}
+use Rattle.promise.specs.Progress.{perMark, callsToEnd, howMany, work, broughtOn, Unrefused, dueCall, promptly}
 use Rattle.promise.proofs.Tests.{clash}
 use Rattle.promise.proofs.Legs.{number-below, number-first, number-step, number-leg}
 use Rattle.promise.proofs.Ways.{way-found}
 use Rattle.promise.proofs.Steps.{
-  Closes, to-step, to-leg, to-end, Does, moves-on, hands-out, ends, closes, errs, refuses, does-so, not-ended, coming-here, over-here, step-on, fit-first,
+  Closes, to-step, to-leg, to-end, moves-on, hands-out, ends, closes, errs, refuses, does-so, not-ended, coming-here, over-here, step-on, fit-first,
   fit-after, History, stop, then, fit-last, history,
 }
 use Rattle.promise.proofs.Refusals.{served, accepted-report, offered}

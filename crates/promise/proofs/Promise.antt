@@ -3,16 +3,17 @@
 use mathlib.Core.Path.{_≡_, refl, sym, ap, _∙_, subst}
 use mathlib.Core.Logic.{_≢_, _↔_}
 use mathlib.Core.Bool.{Bool, true, false, cond}
-use mathlib.Core.List.{List, [], _∷_, _++_, append-nil}
-use mathlib.Core.Option.{none, some}
-use Prim.Native.Nat.{ℕ, zero, suc, _+_, _-_, _≤_, _<_}
+use mathlib.Core.List.{List, _∷_, _++_, append-nil}
+use mathlib.Core.Option.{none}
+use Prim.Native.Nat.{ℕ, _+_, _-_, _≤_}
 use native.Mathlib.Omega.{arith}
-use lib.ListN.{length, drop}
+use lib.ListN.{drop}
 use Rattle.listing.specs.Orders.{Order, InShape}
 use Rattle.listing.proofs.Moves.{differing-same}
 use Rattle.promise.specs.Plan.{Lawful, Accepted, marks}
 use Rattle.promise.specs.Campaign.{
-  State, Call, request, report, isRan, isError, isGaveUp, Answer, movement, mark, theEnd, taken, refusal, Setting, first, numberOf, todo, next, offer, answer, after,
+  State, Call, request, isRan, isError, isGaveUp, Answer, movement, mark, theEnd, taken, refusal, Setting, first, numberOf, todo, next, offer, answer,
+  after,
 }
 use Rattle.promise.specs.Fitness.{Fit, Why}
 use Rattle.promise.specs.Bench.{

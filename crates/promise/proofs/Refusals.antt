@@ -13,7 +13,7 @@ use Rattle.listing.specs.Orders.{Order}
 use Rattle.listing.proofs.Numbers.{either, test}
 use Rattle.promise.specs.Plan.{marks}
 use Rattle.promise.specs.Campaign.{
-  State, Call, request, report, wordOf, isError, Answer, movement, mark, theEnd, taken, refusal, Setting, here, todo, fit, next, offer, answer,
+  State, Call, request, report, wordOf, isError, Answer, theEnd, taken, refusal, Setting, here, todo, fit, next, offer, answer,
 }
 use Rattle.promise.specs.Fitness.{Fit, Why, unfit, kindAbove, noMark, markStands, errorsFull, noRoom}
 use Rattle.promise.proofs.Tests.{clash, fails}
@@ -119,9 +119,6 @@ module _ (C : Setting) (s : State) where
   unfolding at-errors at-mark at-kind
   why-report kind k f = by-kind (ltb 2 kind) refl
     where
-      no-taken : taken ≡ refusal k → Why C s (report kind) k
-      no-taken h = absurd (let z : _≡_ {A = ℕ} 0 1 = cc in omega arith)
-
       by-errors : (kind : ℕ) (b : Bool) → s .standing ≡ true → leb (C .limit) (s .errors) ≡ b → at-errors kind b ≡ refusal k → Why C s (report kind) k
       by-errors zero b st e h = absurd (let z : _≡_ {A = ℕ} 0 1 = cc in omega arith)
       by-errors (suc zero) true st e h =

@@ -9,20 +9,20 @@ use Prim.Native.Nat.{ℕ, zero, suc, _+_, _≤_, _<_}
 use native.Mathlib.Omega.{arith}
 use lib.Dec.{leb, ltb}
 use lib.ListN.{length}
-use borrow.Author.Tests.{ltb-true, ltb-false, leb-true, leb-false}
+use borrow.Author.Tests.{ltb-true, ltb-false, leb-false}
 use Rattle.listing.specs.Pattern.{Permutation}
 use Rattle.listing.specs.Orders.{Order, carry}
 use Rattle.listing.proofs.Numbers.{either, test}
-use Rattle.promise.specs.Plan.{Lawful, Accepted, legAt, marks, number}
+use Rattle.promise.specs.Plan.{Lawful, Accepted, marks, number}
 use Rattle.promise.specs.Campaign.{
-  State, withPanel, withMark, placed, Call, request, report, Word, ran, error, gaveUp, wordOf, isRan, isError, isGaveUp, tick, tallied, Answer, movement, mark, theEnd, taken, refusal,
-  Setting, first, toCome, here, rankOf, numberOf, wanted, todo, closedMarks, fit, next, offer, answer, closed, heard, after,
+  State, withPanel, withMark, placed, Call, request, report, Word, ran, error, gaveUp, wordOf, isRan, isError, isGaveUp, tick, tallied, Answer, movement,
+  mark, theEnd, taken, refusal, Setting, first, toCome, here, rankOf, numberOf, wanted, todo, next, offer, answer, closed, heard, after,
 }
 use Rattle.promise.specs.Fitness.{OnTheWay, Fit}
 use Rattle.promise.specs.Bench.{Turn, run, leaves, Each}
 use Rattle.promise.proofs.Tests.{clash}
 use Rattle.promise.proofs.Legs.{number-first, number-step, number-leg, number-last}
-use Rattle.promise.proofs.Ways.{Coming, Listed, no-none, coming, way-first, way-found, found-way, way-step, way-over, way-done, way-on}
+use Rattle.promise.proofs.Ways.{Coming, Listed, no-none, coming, way-found, found-way, way-step, way-over, way-done, way-on}
 use Rattle.promise.proofs.Fitness.{tells-fit}
 
 -- ---- the relation

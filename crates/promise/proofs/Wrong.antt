@@ -1,6 +1,6 @@
 -- What demand three rules out. Each law says of one wrong behaviour that no campaign that shows it, whatever its plan, meets the demand.
 -- Assumes nothing.
-use mathlib.Core.Path.{_≡_, refl, sym, ap, _∙_, subst}
+use mathlib.Core.Path.{_≡_, refl, sym, ap, _∙_}
 use mathlib.Core.Logic.{_≢_}
 use mathlib.Core.Bool.{Bool, true, false, cond}
 use mathlib.Core.List.{List, [], _∷_, _++_, map}
@@ -13,7 +13,7 @@ use Rattle.listing.specs.Orders.{Order}
 use Rattle.promise.specs.Plan.{Family, legAt, ranks, marks, number}
 use Rattle.promise.specs.Campaign.{State, Word, ran, error, isRan, isError, tick, theEnd, Setting, first}
 use Rattle.promise.specs.Bench.{
-  Turn, leaves, Each, Act, moves, meets, says, bench, Meets, marksMet, numbered, planned, Again, reports, andStanding, reportedAs, Spaced, EndRight,
+  Turn, leaves, Each, Act, moves, meets, says, bench, Meets, marksMet, numbered, Again, reports, andStanding, reportedAs, Spaced, EndRight,
 }
 use Rattle.promise.specs.Demand.{Demanded}
 use Rattle.promise.proofs.Tests.{clash}

@@ -1,6 +1,6 @@
 -- The customer's third demand as one record, its fields after the customer's sentences and the paper's; and the sentence on the full circuit.
 -- Assumes nothing.
-use Prim.Native.Nat.{ℕ, suc, _+_, _-_, _≤_, _<_}
+use Prim.Native.Nat.{ℕ, _+_, _-_, _≤_, _<_}
 use mathlib.Core.Path.{_≡_}
 use mathlib.Core.Logic.{_≢_, _↔_}
 use mathlib.Core.Bool.{true, false}
@@ -13,8 +13,8 @@ use Rattle.promise.specs.Plan.{Family, marks}
 use Rattle.promise.specs.Campaign.{State, isRan, isError, isGaveUp, movement, refusal, Setting, first}
 use Rattle.promise.specs.Fitness.{Fit, Why}
 use Rattle.promise.specs.Bench.{
-  Turn, leaves, Each, Act, acts, bench, Meets, marksMet, panelsMet, planned, Begins, Again, stands, isClosing, reports, reportedAs, Rising, InTurn,
-  Spaced, Led, NamesFew, DiffersFew, Suits, EndRight,
+  Turn, leaves, Each, Act, acts, bench, Meets, marksMet, panelsMet, planned, Begins, Again, stands, isClosing, reports, reportedAs, Rising, InTurn, Spaced,
+  Led, NamesFew, DiffersFew, Suits, EndRight,
 }
 
 -- 'Take any accepted plan and any calls, each on the state the last one left, and carry out the orders on a panel that starts at home.' Of the turns ts of
