@@ -129,7 +129,8 @@ afresh n (suc (suc j)) k p t R =
     ∙ from-right k (suc j) p t (R .right (suc j) (omega arith) (omega arith))
 
 -- at the first wrong jack the carriage fetches its port; the rest is the carriage from the new panel
-pub carriage-wrong : (n j k : ℕ) (p t : List ℕ) → Ready n j (suc k) p t → entry p j ≢ entry t j → carriage p t ≡ fetch p t j ∷ carriage (carry (fetch p t j) p) t
+pub carriage-wrong : (n j k : ℕ) (p t : List ℕ) → Ready n j (suc k) p t → entry p j ≢ entry t j
+    → carriage p t ≡ fetch p t j ∷ carriage (carry (fetch p t j) p) t
 carriage-wrong n j k p t R e =
     afresh n j (suc k) p t R ∙ from-wrong k j p t e
     ∙ ap {B = List Order} (λ os. fetch p t j ∷ os) (sym (afresh n (suc j) k (carry (fetch p t j) p) t (ready-fetched n j k p t R e)))

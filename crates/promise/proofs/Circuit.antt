@@ -21,23 +21,26 @@ use Rattle.promise.proofs.Promise.{promise}
 
 -- ---- the panels at the marks are the patterns of the marks' ranks
 
-shown-so : (F : Family) (xs : List Act) (again : Bool) (m : ℕ × ℕ) (p : List ℕ) → Meets F p xs → shown again m p xs ≡ map (λ (x : ℕ × ℕ). F .pattern (x .1)) (fresh again m xs)
+-- the patterns of marks, by their ranks
+abbrev patterns : Family → List (ℕ × ℕ) → List (List ℕ)
+patterns F ms = map (λ (x : ℕ × ℕ). F .pattern (x .1)) ms
+
+shown-so : (F : Family) (xs : List Act) (again : Bool) (m : ℕ × ℕ) (p : List ℕ) → Meets F p xs → shown again m p xs ≡ patterns F (fresh again m xs)
 unfolding Meets shown fresh
 shown-so F [] again m p h = refl
 shown-so F (moves o ∷ xs) again m p h = shown-so F xs again m (carry o p) h
 shown-so F (meets k r ∷ xs) again m p h = by-repeat (again && isMark m k r) (shown-so F xs false (k, r) p (h .1))
   where
-    by-repeat : (b : Bool) → shown false (k, r) p xs ≡ map (λ (x : ℕ × ℕ). F .pattern (x .1)) (fresh false (k, r) xs)
-        → cond b (shown false (k, r) p xs) (p ∷ shown false (k, r) p xs)
-        ≡ map (λ (x : ℕ × ℕ). F .pattern (x .1)) (cond b (fresh false (k, r) xs) ((k, r) ∷ fresh false (k, r) xs))
+    by-repeat : (b : Bool) → shown false (k, r) p xs ≡ patterns F (fresh false (k, r) xs)
+        → cond b (shown false (k, r) p xs) (p ∷ shown false (k, r) p xs) ≡ patterns F (cond b (fresh false (k, r) xs) ((k, r) ∷ fresh false (k, r) xs))
     by-repeat true e = e
     by-repeat false e = ap₂ {C = List (List ℕ)} (λ q l. q ∷ l) (h .0) e
 shown-so F (says w ∷ xs) again m p h = shown-so F xs (isError w) m p h
 
-map-numbered : (f : ℕ → List ℕ) (j : ℕ) (rs : List ℕ) → map (λ (x : ℕ × ℕ). f (x .1)) (numbered j rs) ≡ map f rs
+patterns-numbered : (F : Family) (j : ℕ) (rs : List ℕ) → patterns F (numbered j rs) ≡ map (F .pattern) rs
 unfolding numbered
-map-numbered f j [] = refl
-map-numbered f j (r ∷ rs) = ap {B = List (List ℕ)} (λ l. f r ∷ l) (map-numbered f (suc j) rs)
+patterns-numbered F j [] = refl
+patterns-numbered F j (r ∷ rs) = ap {B = List (List ℕ)} (λ l. F .pattern r ∷ l) (patterns-numbered F (suc j) rs)
 
 map-at : (f : ℕ → List ℕ) (l : List ℕ) (i : ℕ) → i < length l → getD (map f l) i [] ≡ f (getD l i 0)
 map-at f [] i h = absurd (omega arith)
@@ -104,20 +107,26 @@ module _ (F : Family) (circuit : Circuit F) where
   -- two different steps of a circuit name different ranks
   round-apart : (start : ℕ) (back : Bool) (i j r : ℕ) → r < F .size → i < F .size → j < F .size → Round start back i r → Round start back j r → i ≡ j
   unfolding Round
-  round-apart start false i j r h hi hj x y = either x (λ a. either y (λ b. omega arith) (λ b. omega arith)) (λ a. either y (λ b. omega arith) (λ b. omega arith))
-  round-apart start true i j r h hi hj x y = either x (λ a. either y (λ b. omega arith) (λ b. omega arith)) (λ a. either y (λ b. omega arith) (λ b. omega arith))
+  round-apart start false i j r h hi hj x y =
+      either x (λ a. either y (λ b. omega arith) (λ b. omega arith)) (λ a. either y (λ b. omega arith) (λ b. omega arith))
+  round-apart start true i j r h hi hj x y =
+      either x (λ a. either y (λ b. omega arith) (λ b. omega arith)) (λ a. either y (λ b. omega arith) (λ b. omega arith))
 
   -- and a step names one rank
   round-rank : (start : ℕ) (back : Bool) (i r q : ℕ) → r < F .size → q < F .size → Round start back i r → Round start back i q → r ≡ q
   unfolding Round
-  round-rank start false i r q h k x y = either x (λ a. either y (λ b. omega arith) (λ b. omega arith)) (λ a. either y (λ b. omega arith) (λ b. omega arith))
-  round-rank start true i r q h k x y = either x (λ a. either y (λ b. omega arith) (λ b. omega arith)) (λ a. either y (λ b. omega arith) (λ b. omega arith))
+  round-rank start false i r q h k x y =
+      either x (λ a. either y (λ b. omega arith) (λ b. omega arith)) (λ a. either y (λ b. omega arith) (λ b. omega arith))
+  round-rank start true i r q h k x y =
+      either x (λ a. either y (λ b. omega arith) (λ b. omega arith)) (λ a. either y (λ b. omega arith) (λ b. omega arith))
 
   -- every rank is named at some step
   round-place : (start : ℕ) → start < F .size → (back : Bool) (r : ℕ) → r < F .size → (i : ℕ) × (i < F .size) × Round start back i r
   unfolding Round
-  round-place start fits false r h = either (below? r start) (λ b. (r + F .size - start, omega arith, inr (omega arith))) (λ b. (r - start, omega arith, inl (omega arith)))
-  round-place start fits true r h = either (below? start r) (λ b. (start + F .size - r, omega arith, inr (omega arith))) (λ b. (start - r, omega arith, inl (omega arith)))
+  round-place start fits false r h =
+      either (below? r start) (λ b. (r + F .size - start, omega arith, inr (omega arith))) (λ b. (r - start, omega arith, inl (omega arith)))
+  round-place start fits true r h =
+      either (below? start r) (λ b. (start + F .size - r, omega arith, inr (omega arith))) (λ b. (start - r, omega arith, inl (omega arith)))
 
   place : (start : ℕ) → start < F .size → (back : Bool) (r : ℕ) → r < F .size → Place F back start r
   place start fits back r h =
@@ -125,7 +134,8 @@ module _ (F : Family) (circuit : Circuit F) where
       record {
         spot = p .0;
         below = p .1;
-        there = round-rank start back (p .0) (stepped F back start (p .0)) r (stepped-listed back start fits (p .0)) h (round start fits back (p .0) (p .1)) (p .2);
+        there = round-rank start back (p .0) (stepped F back start (p .0)) r (stepped-listed back start fits (p .0)) h
+            (round start fits back (p .0) (p .1)) (p .2);
         only = λ i k e. round-apart start back i (p .0) r h k (p .1) (subst (Round start back i) e (round start fits back i k)) (p .2);
       }
 
@@ -154,12 +164,14 @@ module _ (F : Family) (circuit : Circuit F) where
         }
 
     walked-derangement : (i : ℕ) → i < length (walked F back start k) → Derangement (F .ports) (getD (walked F back start k) i [])
-    walked-derangement i h = subst (Derangement (F .ports)) (sym (walked-at i h)) (circuit .derangement (stepped F back start i) (stepped-listed back start fits i))
+    walked-derangement i h =
+        subst (Derangement (F .ports)) (sym (walked-at i h)) (circuit .derangement (stepped F back start i) (stepped-listed back start fits i))
 
 -- ---- plans on a circuit
 
 -- every plan of at least one leg whose starts are listed is accepted, whatever its runs
-pub circuit-accepts : (F : Family) → Circuit F → (legs : List Leg) → 0 < length legs → ((i : ℕ) → i < length legs → legAt legs i .start < F .size) → Accepted F legs
+pub circuit-accepts : (F : Family) → Circuit F → (legs : List Leg) → 0 < length legs → ((i : ℕ) → i < length legs → legAt legs i .start < F .size)
+    → Accepted F legs
 circuit-accepts F circuit legs some starts = record {
   someLeg = some;
   listed = λ i k h e. stepped-listed F circuit (legAt legs i .back) (legAt legs i .start) (starts i h) k;
@@ -167,7 +179,8 @@ circuit-accepts F circuit legs some starts = record {
 
 -- a plan of one full circuit that has ended has met every derangement exactly once, repeats apart
 pub full-circuit : (C : Setting) → Lawful (C .family) → Circuit (C .family) → (l : Leg) → C .legs ≡ l ∷ [] → l .start < C .family .size
-    → suc (l .run) ≡ C .family .size → (cs : List Call) → leaves (first C) (run C cs (first C)) .ended ≡ true → FullCircuit (C .family) (acts (run C cs (first C)))
+    → suc (l .run) ≡ C .family .size → (cs : List Call) → leaves (first C) (run C cs (first C)) .ended ≡ true
+    → FullCircuit (C .family) (acts (run C cs (first C)))
 unfolding ranks
 full-circuit C lawful circuit l one fits full cs ended = record {
   each = λ p d. subst (Once p) (sym met) (walked-once F circuit (l .start) fits (l .back) (l .run) full p d);
@@ -189,7 +202,7 @@ full-circuit C lawful circuit l one fits full cs ended = record {
     met : panelsMet (F .home) (acts (run C cs (first C))) ≡ walked F (l .back) (l .start) (l .run)
     met =
         shown-so F (acts (run C cs (first C))) false (0, 0) (F .home) (kept .everyMarkMeets)
-        ∙ ap (map (λ (x : ℕ × ℕ). F .pattern (x .1))) (kept .marksAllAtEnd ended)
-        ∙ map-numbered (F .pattern) 0 (ranks F (C .legs))
+        ∙ ap (patterns F) (kept .marksAllAtEnd ended)
+        ∙ patterns-numbered F 0 (ranks F (C .legs))
         ∙ ap (λ legs. map (F .pattern) (ranks F legs)) one
         ∙ ap (map (F .pattern)) (append-nil (walk F (l .back) (l .start) (l .run)))

@@ -85,7 +85,8 @@ module _ (m : ℕ) where
 
   -- 'The list decides': whatever move in the paper's form makes the neighbour's pattern of a rank's, its orders are those that the campaign hands out, backward
   -- as forward
-  pub list-decides : (back : Bool) (r : ℕ) → r < count n → (v : Move) → Leads n v (at n r) (at n (rankBeside n back r)) → orders v ≡ derangements n .orders back r
+  pub list-decides : (back : Bool) (r : ℕ) → r < count n → (v : Move) → Leads n v (at n r) (at n (rankBeside n back r))
+      → orders v ≡ derangements n .orders back r
   unfolding derangements
   list-decides back r h v l = ap orders (one-move (at-derangement n r h .permutation) l (beside-leads back r h))
 

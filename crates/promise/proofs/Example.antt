@@ -31,18 +31,21 @@ example = onPorts 4 (record { start = 0; back = false; run = 2 } ∷ record { st
 unfoldable pub answers : Setting → List Call → List Answer
 answers C cs = map (λ (t : Turn). t .answered) (run C cs (first C))
 
-pub as-printed : answers example (promptly example 16 (first example))
+-- every mark taken as run: the paper's printed output, with each report taken
+abbrev AsPrinted : Type 0
+AsPrinted =
+    answers example (promptly example 16 (first example))
     ≡ mark 0 0 ∷ taken ∷ movement (turn 1 2 3) ∷ mark 1 1 ∷ taken ∷ movement (swap 1 2) ∷ mark 2 2 ∷ taken ∷ movement (swap 1 3) ∷ movement (swap 2 4)
     ∷ mark 3 8 ∷ taken ∷ movement (swap 1 3) ∷ mark 4 7 ∷ taken ∷ theEnd 5 ∷ []
-unfolding example answers promptly dueCall run first fit offer answer closed heard after rest toCome orElse marks number holder carriageFrom carriage all implies
-    isPermutation same derangements nextRank previousRank inside onFrom nextMove previousMove hopB hopA hop join4 join5 join closing source carry carryAll home joined
-    block blocks listing at stepA stepB count tabulate is trade raise lower odd
-as-printed = refl
 
 -- no mark to report on, no room, a mark that stands, an unknown kind; after an error the same mark
-pub as-refused : answers example (report 0 ∷ request 44 ∷ request 45 ∷ request 45 ∷ report 3 ∷ report 1 ∷ report 1 ∷ request 45 ∷ report 2 ∷ request 45 ∷ [])
+abbrev AsRefused : Type 0
+AsRefused =
+    answers example (report 0 ∷ request 44 ∷ request 45 ∷ request 45 ∷ report 3 ∷ report 1 ∷ report 1 ∷ request 45 ∷ report 2 ∷ request 45 ∷ [])
     ≡ refusal 12 ∷ refusal 2 ∷ mark 0 0 ∷ refusal 13 ∷ refusal 14 ∷ taken ∷ refusal 12 ∷ mark 0 0 ∷ taken ∷ movement (turn 1 2 3) ∷ []
-unfolding example answers run first fit offer answer closed heard after rest toCome orElse marks number holder carriageFrom carriage all implies
-    isPermutation same derangements nextRank previousRank inside onFrom nextMove previousMove hopB hopA hop join4 join5 join closing source carry carryAll home joined
-    block blocks listing at stepA stepB count tabulate is trade raise lower odd
-as-refused = refl
+
+pub as-the-paper-says : AsPrinted × AsRefused
+unfolding example answers promptly dueCall run first fit offer answer closed heard after rest toCome orElse marks number holder carriageFrom carriage all
+    implies isPermutation same derangements nextRank previousRank inside onFrom nextMove previousMove hopB hopA hop join4 join5 join closing source carry
+    carryAll home joined block blocks listing at stepA stepB count tabulate is trade raise lower odd
+as-the-paper-says = (refl, refl)

@@ -37,11 +37,12 @@ tells-fit C s =
     let last : Tells (not (s .standing) && eqb (suc (s .leg)) (length (C .legs)) && eqb (s .step) (here C s .run))
         (((s .standing ≡ false) × (suc (s .leg) ≡ length (C .legs))) × (s .step ≡ here C s .run)) =
     tells-and _ _ (tells-and _ _ (tells-not (s .standing)) (tells-eqb (suc (s .leg)) (length (C .legs)))) (tells-eqb (s .step) (here C s .run)) in
+    let places = tells-and _ _ (tells-ltb (s .leg) (length (C .legs))) (tells-leb (s .step) (here C s .run)) in
+    let counts = tells-and _ _ (tells-and _ _ places (tells-leb (s .errors) (C .limit))) (tells-eqb (s .covered + s .opened) (closedMarks C s)) in
+    let ends = tells-and _ _ counts (tells-implies _ _ (tells-true (s .ended)) last) in
+    let at-marks = tells-and _ _ ends (tells-implies _ _ (tells-true (s .standing || s .ended)) (tells-same (s .panel) (wanted C s))) in
     let all-seven =
-    tells-and _ _ (tells-and _ _ (tells-and _ _ (tells-and _ _ (tells-and _ _ (tells-and _ _ (tells-ltb (s .leg) (length (C .legs))) (tells-leb (s .step) (here C s .run)))
-    (tells-leb (s .errors) (C .limit))) (tells-eqb (s .covered + s .opened) (closedMarks C s))) (tells-implies _ _ (tells-true (s .ended)) last))
-    (tells-implies _ _ (tells-true (s .standing || s .ended)) (tells-same (s .panel) (wanted C s))))
-    (tells-implies _ _ (tells-not (s .standing || s .ended)) (tells-way (C .family) (here C s) (s .step) (s .panel))) in (
+    tells-and _ _ at-marks (tells-implies _ _ (tells-not (s .standing || s .ended)) (tells-way (C .family) (here C s) (s .step) (s .panel))) in (
       λ e.
           let t = all-seven .0 e in
           record {

@@ -26,7 +26,8 @@ use Rattle.promise.proofs.Marks.{closed-so}
 record Leading (C : Setting) (s : State) (again : Bool) (os : List Order) (last : List ℕ) : Type 0 where
   standing : s .standing ≡ true → (os ≡ []) × (last ≡ s .panel)
   repeat : again ≡ true → todo C s ≡ some []
-  onward : s .standing ≡ false → s .ended ≡ false → again ≡ false → (vs : List Order) → todo C s ≡ some vs → os ++ vs ≡ leadTo (C .family) (here C s) (s .step) last
+  onward : s .standing ≡ false → s .ended ≡ false → again ≡ false → (vs : List Order) → todo C s ≡ some vs
+      → os ++ vs ≡ leadTo (C .family) (here C s) (s .step) last
 
 led-same : (C : Setting) (xs : List Act) {b : Bool} {os : List Order} {last p q : List ℕ} → b ≡ false → os ≡ [] → last ≡ p → q ≡ p → Led C false [] q q xs
     → Led C b os last p xs

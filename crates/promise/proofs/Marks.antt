@@ -74,7 +74,8 @@ newest false false false total n = n
 abbrev pub newMark : Setting → State → Bool → ℕ
 newMark C s again = newest (s .ended) (s .standing) again (marks (C .legs)) (numberOf C s)
 
-new-by : (C : Setting) (s : State) (again en st : Bool) → s .ended ≡ en → s .standing ≡ st → newMark C s again ≡ newest en st again (marks (C .legs)) (numberOf C s)
+new-by : (C : Setting) (s : State) (again en st : Bool) → s .ended ≡ en → s .standing ≡ st
+    → newMark C s again ≡ newest en st again (marks (C .legs)) (numberOf C s)
 new-by C s again en st e f = ap₂ (λ x y. newest x y again (marks (C .legs)) (numberOf C s)) e f
 
 -- closing a mark leads to the number after its own

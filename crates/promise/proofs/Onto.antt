@@ -76,7 +76,8 @@ found (y ∷ p) x zero h e = absurd (omega arith)
 found (y ∷ p) x (suc zero) h e = rw (eq-eqb y x e) (omega arith, e)
 found (y ∷ p) x (suc (suc j)) h e = either (same? y x) (λ q. rw (eq-eqb y x q) (omega arith, q)) (λ q. later q (found p x (suc j) (omega arith) e))
   where
-    later : y ≢ x → Among (length p) (holder p x) × (entry p (holder p x) ≡ x) → Among (suc (length p)) (holder (y ∷ p) x) × (entry (y ∷ p) (holder (y ∷ p) x) ≡ x)
+    later : y ≢ x → Among (length p) (holder p x) × (entry p (holder p x) ≡ x)
+        → Among (suc (length p)) (holder (y ∷ p) x) × (entry (y ∷ p) (holder (y ∷ p) x) ≡ x)
     later q r = rw (ne-eqb y x q) (omega arith, behind y p (holder p x) (omega arith) ∙ r .1)
 
 -- on a permutation of 1..n each of the ports has its holder

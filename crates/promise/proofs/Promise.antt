@@ -123,7 +123,8 @@ module _ (C : Setting) (lawful : Lawful (C .family)) (accepted : Accepted (C .fa
           coveredOnce = rising-so xs 0 none in-turn;
           fewMovements = spaced-so C lawful accepted told;
           fewCordsNamed = names;
-          fewCordsDiffer = differs-so (C .legs) (C .family .reach) xs 0 (C .family .home) (C .family .home) refl (omega (arith, differing-same (C .family .home))) names;
+          fewCordsDiffer = differs-so (C .legs) (C .family .reach) xs 0 (C .family .home) (C .family .home) refl
+              (omega (arith, differing-same (C .family .home))) names;
           ordersLead = led-so C lawful accepted told;
           markStands = stands-so told;
           panelIsCarried = carried-so C lawful accepted told;

@@ -82,7 +82,8 @@ pub differs-so : (legs : List Leg) (reach : ℕ) (xs : List Act) (n : ℕ) (last
 unfolding NamesFew DiffersFew
 differs-so legs reach [] n last p e d h = tt
 differs-so legs reach (moves o ∷ xs) n last p e d h =
-    differs-so legs reach xs (n + length (jacks o)) last (carry o p) (length-carry o p ∙ e) (omega (arith, differing-by last p (carry o p) e, differing-order o p)) h
+    differs-so legs reach xs (n + length (jacks o)) last (carry o p) (length-carry o p ∙ e)
+    (omega (arith, differing-by last p (carry o p) e, differing-order o p)) h
 differs-so legs reach (meets k r ∷ xs) n last p e d h =
     (λ x. omega (arith, h .0 x), differs-so legs reach xs 0 p p refl (omega (arith, differing-same p)) (h .1))
 differs-so legs reach (says w ∷ xs) n last p e d h = differs-so legs reach xs n last p e d h

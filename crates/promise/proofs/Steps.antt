@@ -146,7 +146,8 @@ module _ (C : Setting) (lawful : Lawful (C .family)) (accepted : Accepted (C .fa
 
   -- at the mark's pattern nothing is to come
   pub over-here : (s : State) → Fit C s → s .panel ≡ wanted C s → todo C s ≡ some []
-  over-here s f p = subst (λ q. toCome (C .family) (here C s) (s .step) q ≡ some []) (sym p) (way-over (C .family) lawful (here C s) (s .step) (listed-here s f))
+  over-here s f p =
+      subst (λ q. toCome (C .family) (here C s) (s .step) q ≡ some []) (sym p) (way-over (C .family) lawful (here C s) (s .step) (listed-here s f))
 
   -- the first state is fit
   pub fit-first : Fit C (first C)

@@ -73,12 +73,10 @@ pub tells-permutation : (n : ℕ) (p : List ℕ) → Tells (isPermutation n p) (
 unfolding isPermutation
 tells-permutation n p =
     let ports : Tells (all n (λ j. leb 1 (entry p j) && leb (entry p j) n)) ((j : ℕ) → Among n j → Among n (entry p j)) =
-    tells-all n (λ j. leb 1 (entry p j) && leb (entry p j) n) (λ j. Among n (entry p j))
-    (λ j. tells-and (leb 1 (entry p j)) (leb (entry p j) n) (tells-leb 1 (entry p j)) (tells-leb (entry p j) n)) in
-    let apart : Tells (all n (λ j. all n (λ k. implies (eqb (entry p j) (entry p k)) (eqb j k)))) ((j : ℕ) → Among n j → (k : ℕ) → Among n k → entry p j ≡ entry p k → j ≡ k) =
-    tells-all n (λ j. all n (λ k. implies (eqb (entry p j) (entry p k)) (eqb j k))) (λ j. (k : ℕ) → Among n k → entry p j ≡ entry p k → j ≡ k)
-    (λ j. tells-all n (λ k. implies (eqb (entry p j) (entry p k)) (eqb j k)) (λ k. entry p j ≡ entry p k → j ≡ k)
-    (λ k. tells-implies (eqb (entry p j) (entry p k)) (eqb j k) (tells-eqb (entry p j) (entry p k)) (tells-eqb j k))) in
+    tells-all n _ _ (λ j. tells-and _ _ (tells-leb 1 (entry p j)) (tells-leb (entry p j) n)) in
+    let apart : Tells (all n (λ j. all n (λ k. implies (eqb (entry p j) (entry p k)) (eqb j k))))
+        ((j : ℕ) → Among n j → (k : ℕ) → Among n k → entry p j ≡ entry p k → j ≡ k) =
+    tells-all n _ _ (λ j. tells-all n _ _ (λ k. tells-implies _ _ (tells-eqb (entry p j) (entry p k)) (tells-eqb j k))) in
     let all-three = tells-and _ _ (tells-and _ _ (tells-eqb (length p) n) ports) apart in (
       λ e. record { long = all-three .0 e .0 .0; ports = all-three .0 e .0 .1; apart = λ j k hj hk q. all-three .0 e .1 j hj k hk q },
       λ P. all-three .1 ((P .long, P .ports), λ j hj k hk q. P .apart j k hj hk q),
@@ -89,8 +87,7 @@ pub tells-same : (p q : List ℕ) → Tells (same p q) (p ≡ q)
 unfolding same
 tells-same p q =
     let parts : Tells (same p q) ((length p ≡ length q) × ((j : ℕ) → Among (length p) j → entry p j ≡ entry q j)) =
-    tells-and (eqb (length p) (length q)) (all (length p) (λ j. eqb (entry p j) (entry q j))) (tells-eqb (length p) (length q))
-    (tells-all (length p) (λ j. eqb (entry p j) (entry q j)) (λ j. entry p j ≡ entry q j) (λ j. tells-eqb (entry p j) (entry q j))) in (
+    tells-and _ _ (tells-eqb (length p) (length q)) (tells-all (length p) _ _ (λ j. tells-eqb (entry p j) (entry q j))) in (
       λ e. same-entries p q (parts .0 e .0) (parts .0 e .1),
       λ e. parts .1 (ap length e, λ j h. ap (λ l. entry l j) e),
     )

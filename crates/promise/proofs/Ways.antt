@@ -89,7 +89,8 @@ rest-after p os straight i h =
     f .1 ∙ ap {B = Option (List Order)} some (sym (r .left) ∙ ap (λ j. drop j os) (straight (r .done) i (r .within) h (r .panel)))
 
 -- the first order of what is left, carried out, leaves the others
-rest-step : (p : List ℕ) (os : List Order) → Straight p os → (q : List ℕ) (w : Order) (ws : List Order) → rest p os q ≡ some (w ∷ ws) → rest p os (carry w q) ≡ some ws
+rest-step : (p : List ℕ) (os : List Order) → Straight p os → (q : List ℕ) (w : Order) (ws : List Order) → rest p os q ≡ some (w ∷ ws)
+    → rest p os (carry w q) ≡ some ws
 unfolding carryAll
 rest-step p os straight q w ws h =
     let r : Rest p os q (w ∷ ws) = rest-so p os q (w ∷ ws) h in

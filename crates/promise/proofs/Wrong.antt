@@ -103,8 +103,8 @@ module _ (C : Setting) (ts : List Turn) (s : State) where
       missing (ap length (D .marksAllAtEnd e) ∙ length-numbered 0 (ranks (C .family) (C .legs)) ∙ length-ranks (C .family) (C .legs))
 
 -- the end given on a state that has not ended
-pub end-given-early : (C : Setting) (ts us : List Turn) (t : Turn) (k : ℕ) (xs : List Act) (s : State) → leaves (first C) ts .ended ≡ false → t .answered ≡ theEnd k
-    → ¬ Demanded C (ts ++ t ∷ us) xs s
+pub end-given-early : (C : Setting) (ts us : List Turn) (t : Turn) (k : ℕ) (xs : List Act) (s : State) → leaves (first C) ts .ended ≡ false
+    → t .answered ≡ theEnd k → ¬ Demanded C (ts ++ t ∷ us) xs s
 unfolding Each
 end-given-early C ts us t k xs s going e D =
     let h : Each (EndRight C) (leaves (first C) ts) (t ∷ us) = each-later (EndRight C) (first C) ts (t ∷ us) (D .endRight) in
