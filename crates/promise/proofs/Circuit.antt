@@ -2,7 +2,7 @@
 -- plans are accepted there.
 -- Assumes nothing.
 use mathlib.Core.Path.{_≡_, refl, sym, ap, ap₂, _∙_, subst}
-use mathlib.Core.Bool.{Bool, true, false, cond, _&&_}
+use mathlib.Core.Bool.{Bool, true, false, not, cond, _&&_}
 use mathlib.Core.Logic.{_⊎_, inl, inr}
 use mathlib.Core.List.{List, [], _∷_, append-nil, map}
 use Prim.Native.Nat.{ℕ, zero, suc, _+_, _-_, _<_}
@@ -13,8 +13,8 @@ use Rattle.listing.specs.Pattern.{Derangement}
 use Rattle.listing.specs.Orders.{carry}
 use Rattle.listing.proofs.Numbers.{either, below?, is-cases, suc-before}
 use Rattle.promise.specs.Plan.{Family, Lawful, Circuit, Leg, legAt, Accepted, stepped, walk, ranks}
-use Rattle.promise.specs.Campaign.{Call, Setting, first, isError}
-use Rattle.promise.specs.Bench.{run, leaves, Act, moves, meets, says, acts, Meets, isMark, fresh, shown, panelsMet, numbered}
+use Rattle.promise.specs.Campaign.{Call, Setting, first, isClosing}
+use Rattle.promise.specs.Bench.{turns, leftBy, Act, moves, meets, says, acts, Meets, isMark, fresh, shown, panelsMet, numbered}
 use Rattle.promise.specs.Demand.{Demand, Once, FullCircuit}
 use Rattle.promise.proofs.Legs.{length-walk, walk-at}
 use Rattle.promise.proofs.Promise.{promise}
@@ -35,7 +35,7 @@ shown-so F (meets k r ∷ xs) again m p h = by-repeat (again && isMark m k r) (s
         → cond b (shown false (k, r) p xs) (p ∷ shown false (k, r) p xs) ≡ patterns F (cond b (fresh false (k, r) xs) ((k, r) ∷ fresh false (k, r) xs))
     by-repeat true e = e
     by-repeat false e = ap₂ {C = List (List ℕ)} (λ q l. q ∷ l) (h .0) e
-shown-so F (says w ∷ xs) again m p h = shown-so F xs (isError w) m p h
+shown-so F (says w ∷ xs) again m p h = shown-so F xs (not (isClosing w)) m p h
 
 patterns-numbered : (F : Family) (j : ℕ) (rs : List ℕ) → patterns F (numbered j rs) ≡ map (F .pattern) rs
 unfolding numbered
@@ -177,10 +177,17 @@ circuit-accepts F circuit legs some starts = record {
   listed = λ i k h e. stepped-listed F circuit (legAt legs i .back) (legAt legs i .start) (starts i h) k;
 }
 
+pub one-leg-accepted : (F : Family) → Circuit F → (l : Leg) → l .start < F .size → Accepted F (l ∷ [])
+one-leg-accepted F circuit l fits = circuit-accepts F circuit (l ∷ []) (omega arith) starts
+  where
+    starts : (i : ℕ) → i < 1 → legAt (l ∷ []) i .start < F .size
+    starts zero h = fits
+    starts (suc i) h = absurd (omega arith)
+
 -- a plan of one full circuit that has ended has met every derangement exactly once, repeats apart
 pub full-circuit : (C : Setting) → Lawful (C .family) → Circuit (C .family) → (l : Leg) → C .legs ≡ l ∷ [] → l .start < C .family .size
-    → suc (l .run) ≡ C .family .size → (cs : List Call) → leaves (first C) (run C cs (first C)) .ended ≡ true
-    → FullCircuit (C .family) (acts (run C cs (first C)))
+    → suc (l .run) ≡ C .family .size → (cs : List Call) → leftBy C cs .ended ≡ true
+    → FullCircuit (C .family) (acts (turns C cs))
 unfolding ranks
 full-circuit C lawful circuit l one fits full cs ended = record {
   each = λ p d. subst (Once p) (sym met) (walked-once F circuit (l .start) fits (l .back) (l .run) full p d);
@@ -192,16 +199,12 @@ full-circuit C lawful circuit l one fits full cs ended = record {
     F : Family
     F = C .family
 
-    starts : (i : ℕ) → i < 1 → legAt (l ∷ []) i .start < F .size
-    starts zero h = fits
-    starts (suc i) h = absurd (omega arith)
+    kept : Demand C (turns C cs)
+    kept = promise C lawful (subst (Accepted F) (sym one) (one-leg-accepted F circuit l fits)) cs
 
-    kept : Demand C (run C cs (first C))
-    kept = promise C lawful (subst (Accepted F) (sym one) (circuit-accepts F circuit (l ∷ []) (omega arith) starts)) cs
-
-    met : panelsMet (F .home) (acts (run C cs (first C))) ≡ walked F (l .back) (l .start) (l .run)
+    met : panelsMet (F .home) (acts (turns C cs)) ≡ walked F (l .back) (l .start) (l .run)
     met =
-        shown-so F (acts (run C cs (first C))) false (0, 0) (F .home) (kept .everyMarkMeets)
+        shown-so F (acts (turns C cs)) false (0, 0) (F .home) (kept .everyMarkMeets)
         ∙ ap (patterns F) (kept .marksAllAtEnd ended)
         ∙ patterns-numbered F 0 (ranks F (C .legs))
         ∙ ap (λ legs. map (F .pattern) (ranks F legs)) one

@@ -20,13 +20,15 @@ use Rattle.listing.proofs.Moves.{orders-shaped}
 use Rattle.listing.proofs.Neighbours.{next-leads, previous-leads}
 use Rattle.listing.proofs.OneMove.{one-move}
 use Rattle.promise.specs.Plan.{cords, Lawful, Circuit, Leg, legAt}
-use Rattle.promise.specs.Campaign.{Call, Answer, first}
-use Rattle.promise.specs.Bench.{run, leaves, acts}
+use Rattle.promise.specs.Campaign.{Call, Answer, Setting, first}
+use Rattle.promise.specs.Bench.{turns, leftBy, acts}
+use Rattle.promise.specs.Progress.{callsToEnd, promptly}
 use Rattle.promise.specs.Demand.{Demand, FullCircuit}
 use Rattle.promise.specs.Derangements.{rankBeside, moveBeside, derangements, onPorts}
 use Rattle.promise.proofs.Straight.{straight-move}
 use Rattle.promise.proofs.Promise.{promise}
-use Rattle.promise.proofs.Circuit.{circuit-accepts, full-circuit}
+use Rattle.promise.proofs.Circuit.{circuit-accepts, one-leg-accepted, full-circuit}
+use Rattle.promise.proofs.Progress.{promptly-ends}
 
 -- ---- the orders of a move
 
@@ -94,13 +96,20 @@ module _ (m : ℕ) where
 
   module _ (legs : List Leg) (width : Answer → ℕ) (some : 0 < length legs) (starts : (i : ℕ) → i < length legs → legAt legs i .start < count n) where
     -- for every plan with a leg and starts below the count, and any calls
-    pub demand-three : (cs : List Call) → Demand (onPorts n legs width) (run (onPorts n legs width) cs (first (onPorts n legs width)))
+    pub demand-three : (cs : List Call) → Demand (onPorts n legs width) (turns (onPorts n legs width) cs)
     unfolding derangements
     demand-three cs = promise (onPorts n legs width) lawful (circuit-accepts (derangements n) circuit legs some starts) cs
 
   -- a plan of one leg with count - 1 steps, from any start and either way, that has ended has met every derangement exactly once
   pub all-met : (l : Leg) (width : Answer → ℕ) → l .start < count n → suc (l .run) ≡ count n → (cs : List Call)
-      → leaves (first (onPorts n (l ∷ []) width)) (run (onPorts n (l ∷ []) width) cs (first (onPorts n (l ∷ []) width))) .ended ≡ true
-      → FullCircuit (derangements n) (acts (run (onPorts n (l ∷ []) width) cs (first (onPorts n (l ∷ []) width))))
+      → leftBy (onPorts n (l ∷ []) width) cs .ended ≡ true → FullCircuit (derangements n) (acts (turns (onPorts n (l ∷ []) width) cs))
   unfolding derangements
   all-met l width fits full cs ended = full-circuit (onPorts n (l ∷ []) width) lawful circuit l refl fits full cs ended
+
+  -- and there are calls that end it: those of the order printer
+  pub all-met-promptly : (l : Leg) (width : Answer → ℕ) → l .start < count n → suc (l .run) ≡ count n
+      → let C = onPorts n (l ∷ []) width in FullCircuit (derangements n) (acts (turns C (promptly C (callsToEnd C) (first C))))
+  unfolding derangements
+  all-met-promptly l width fits full =
+      let C : Setting = onPorts n (l ∷ []) width in
+      all-met l width fits full (promptly C (callsToEnd C) (first C)) (promptly-ends C lawful (one-leg-accepted (derangements n) circuit l fits))

@@ -1,7 +1,7 @@
 -- Between marks exactly the orders come that lead there: the carriage before a leg's first mark, inside a leg the family's orders to the neighbour.
 -- Assumes nothing.
 use mathlib.Core.Path.{_≡_, refl, sym, ap, ap₂, _∙_}
-use mathlib.Core.Bool.{Bool, true, false}
+use mathlib.Core.Bool.{Bool, true, false, not}
 use mathlib.Core.List.{List, [], _∷_, _++_, append-nil}
 use mathlib.Core.Option.{some}
 use Prim.Native.Nat.{ℕ, suc, _<_}
@@ -75,7 +75,7 @@ module _ (C : Setting) (lawful : Lawful (C .family)) (accepted : Accepted (C .fa
       let none-yet : (os ≡ []) × (last ≡ s .panel) = L .standing st in
       let later : Led C false [] (t .panel) (t .panel) (acts ts) =
       led-from false [] (t .panel) (leading-closed (f .leg) (f .atMark st) x (fit-start h)) h in
-      led-same C (acts ts) ne (none-yet .0) (none-yet .1) (closed-so x .panel) later
+      led-same C (acts ts) (ap not ne) (none-yet .0) (none-yet .1) (closed-so x .panel) later
   led-from {s} again os last L (then f (errs st lt) h) = led-from true os last (record {
     standing = λ y. clash y refl;
     repeat = λ y. over-here C lawful accepted s f (f .atMark st);

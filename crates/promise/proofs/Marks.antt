@@ -1,7 +1,7 @@
 -- Clauses a and b of demand three, of every history: every mark meets its pattern, the marks are those of the plan's list, after an error the same mark comes.
 -- Assumes nothing.
 use mathlib.Core.Path.{_≡_, refl, sym, ap, ap₂, _∙_, subst}
-use mathlib.Core.Bool.{Bool, true, false, cond, _&&_}
+use mathlib.Core.Bool.{Bool, true, false, not, cond, _&&_}
 use mathlib.Core.List.{List, [], _∷_, _++_}
 use mathlib.Core.Option.{some}
 use Prim.Native.Nat.{ℕ, zero, suc, _+_, _<_}
@@ -148,7 +148,7 @@ module _ (C : Setting) (lawful : Lawful (C .family)) (accepted : Accepted (C .fa
   between-so {s} again m fa fs (then {t = t} {ts = ts} f (closes st ne x) h) =
       let r = between-so false m (λ y. clash y refl) (λ y. clash y (closed-so x .standing)) h in (
         r .0,
-        ap (λ b. fresh b m (acts ts) ++ drop (newMark C (leaves t ts) (r .0)) (planned C)) ne
+        ap (λ b. fresh (not b) m (acts ts) ++ drop (newMark C (leaves t ts) (r .0)) (planned C)) ne
             ∙ r .1 ∙ ap (λ k. drop k (planned C)) (new-closed x ∙ sym (new-by C s again false true (not-ended s f st) st)),
       )
   between-so {s} again m fa fs (then f (errs st lt) h) =
@@ -172,7 +172,7 @@ module _ (C : Setting) (lawful : Lawful (C .family)) (accepted : Accepted (C .fa
   again-so {s} again m fa fs (then f (hands-out st en w) h) = (λ x. sym (fa x .0), again-so false (markOf C s) (λ x. clash x refl) (λ x. refl) h)
   again-so again m fa fs (then f (ends en) h) = again-so again m fa fs h
   again-so again m fa fs (then {ts = ts} f (closes st ne x) h) =
-      subst (λ b. Again b m (acts ts)) (sym ne) (again-so false m (λ y. clash y refl) (λ y. clash y (closed-so x .standing)) h)
+      subst (λ b. Again (not b) m (acts ts)) (sym ne) (again-so false m (λ y. clash y refl) (λ y. clash y (closed-so x .standing)) h)
   again-so {s} again m fa fs (then f (errs st lt) h) =
       again-so true m (λ y. (fs st, over-here C lawful accepted s f (f .atMark st))) (λ y. clash y refl) h
   again-so again m fa fs (then f (refuses k n) h) = again-so again m fa fs h

@@ -17,13 +17,13 @@ use Rattle.promise.specs.Campaign.{
   here, numberOf, todo, offer, answer, after,
 }
 use Rattle.promise.specs.Fitness.{Fit}
-use Rattle.promise.specs.Bench.{Turn, run, leaves, Act, inFront, acts, reports}
+use Rattle.promise.specs.Bench.{Turn, run, leaves, turns, leftBy, Act, inFront, acts, reports}
 use Rattle.promise.specs.Progress.{perMark, callsToEnd, howMany, work, broughtOn, Unrefused, dueCall, promptly}
 use Rattle.promise.proofs.Tests.{clash}
 use Rattle.promise.proofs.Legs.{number-below, number-first, number-step, number-leg}
 use Rattle.promise.proofs.Ways.{way-found}
 use Rattle.promise.proofs.Steps.{
-  Closes, to-step, to-leg, to-end, moves-on, hands-out, ends, closes, errs, refuses, does-so, not-ended, coming-here, over-here, step-on, fit-first,
+  Closes, to-step, to-leg, to-end, moves-on, hands-out, ends, closes, errs, refuses, does-so, not-ended, closing-error, coming-here, over-here, step-on, fit-first,
   fit-after, History, stop, then, fit-last, history,
 }
 use Rattle.promise.proofs.Refusals.{served, accepted-report, offered}
@@ -137,7 +137,7 @@ module _ (C : Setting) (lawful : Lawful (C .family)) (accepted : Accepted (C .fa
   worked {s} (then f (hands-out st en w) h) = omega (arith, worked h, work-marked s st en w)
   worked (then f (ends en) h) = omega (arith, worked h)
   worked {s} (then {t = t} f (closes {kind = kind} st ne x) h) =
-      omega (arith, worked h, work-closing s t kind f st x (fit-after C lawful accepted f (closes {kind = kind} st ne x)), ap tick ne)
+      omega (arith, worked h, work-closing s t kind f st x (fit-after C lawful accepted f (closes {kind = kind} st ne x)), ap tick (closing-error (wordOf kind) ne))
   worked {s} (then f (errs st lt) h) = omega (arith, worked h, work-erred s f st)
   worked (then f (refuses k n) h) = omega (arith, worked h)
 
@@ -171,27 +171,24 @@ module _ (C : Setting) (lawful : Lawful (C .family)) (accepted : Accepted (C .fa
       (λ st. omega (arith, work-by C s false false (todo C s) en st refl))
 
   module _ (cs : List Call) where
-    abbrev turns : List Turn
-    turns = run C cs (first C)
-
-    told : History C (first C) turns
+    told : History C (first C) (turns C cs)
     told = history C lawful accepted cs (first C) (fit-first C lawful accepted)
 
     -- there are never more orders, marks and reports taken than all marks take and two for each error
-    pub brought-most : broughtOn turns ≤ callsToEnd C + 2 * reports isError (acts turns)
+    pub brought-most : broughtOn (turns C cs) ≤ callsToEnd C + 2 * reports isError (acts (turns C cs))
     brought-most = omega (arith, worked told, work-first)
 
     -- calls that are not refused reach the end, if they are as many
-    pub reaches-end : Unrefused turns → callsToEnd C + 2 * reports isError (acts turns) ≤ length cs → leaves (first C) turns .ended ≡ true
+    pub reaches-end : Unrefused (turns C cs) → callsToEnd C + 2 * reports isError (acts (turns C cs)) ≤ length cs → leftBy C cs .ended ≡ true
     reaches-end u many =
-        either (test (leaves (first C) turns .ended)) (λ e. e) (λ e.
-        absurd (omega (arith, worked told, work-first, all-bring told u e, length-run C cs (first C), some-work (leaves (first C) turns) e)))
+        either (test (leftBy C cs .ended)) (λ e. e) (λ e.
+        absurd (omega (arith, worked told, work-first, all-bring told u e, length-run C cs (first C), some-work (leftBy C cs) e)))
 
     -- and since errors stop at the limit, so many calls reach it however many errors are reported
-    pub reaches-end-always : Unrefused turns → callsToEnd C + 2 * C .limit ≤ length cs → leaves (first C) turns .ended ≡ true
+    pub reaches-end-always : Unrefused (turns C cs) → callsToEnd C + 2 * C .limit ≤ length cs → leftBy C cs .ended ≡ true
     unfolding first
     reaches-end-always u many =
-        let errors : leaves (first C) turns .errors ≡ reports isError (acts turns) = counted-so C isError (λ s. s .errors) error-counts told ∙ omega arith in
+        let errors : leftBy C cs .errors ≡ reports isError (acts (turns C cs)) = counted-so C isError (λ s. s .errors) error-counts told ∙ omega arith in
         reaches-end u (omega (arith, errors, fit-last told .errors))
 
   -- ---- calls that are not refused
@@ -212,7 +209,7 @@ module _ (C : Setting) (lawful : Lawful (C .family)) (accepted : Accepted (C .fa
       (due-answered s f, due-unrefused n (after C (dueCall C s) (answer C (dueCall C s) s) s) (fit-after C lawful accepted f (does-so C s f (dueCall C s))))
 
   -- so a campaign whose marks are all taken as run has ended after callsToEnd calls
-  pub promptly-ends : leaves (first C) (run C (promptly C (callsToEnd C) (first C)) (first C)) .ended ≡ true
+  pub promptly-ends : leftBy C (promptly C (callsToEnd C) (first C)) .ended ≡ true
   promptly-ends =
       reaches-end (promptly C (callsToEnd C) (first C)) (due-unrefused (callsToEnd C) (first C) (fit-first C lawful accepted))
       (omega (arith, due-errors C (callsToEnd C) (first C), length-promptly C (callsToEnd C) (first C)))

@@ -12,12 +12,12 @@ use Rattle.listing.specs.Orders.{Order, InShape}
 use Rattle.listing.proofs.Moves.{differing-same}
 use Rattle.promise.specs.Plan.{Lawful, Accepted, marks}
 use Rattle.promise.specs.Campaign.{
-  State, Call, request, isRan, isError, isGaveUp, Answer, movement, mark, theEnd, taken, refusal, Setting, first, numberOf, todo, next, offer, answer,
+  State, Call, request, isRan, isError, isGaveUp, isClosing, Answer, movement, mark, theEnd, taken, refusal, Setting, first, numberOf, todo, next, offer, answer,
   after,
 }
 use Rattle.promise.specs.Fitness.{Fit, Why}
 use Rattle.promise.specs.Bench.{
-  Turn, run, leaves, Each, Act, acts, marksMet, planned, isClosing, reports, reportedAs, InTurn, NamesFew, Suits, EndRight,
+  Turn, turns, leftBy, Each, Act, acts, marksMet, planned, reports, reportedAs, InTurn, NamesFew, Suits, EndRight,
 }
 use Rattle.promise.specs.Demand.{Demand}
 use Rattle.promise.proofs.Tests.{clash}
@@ -28,7 +28,7 @@ use Rattle.promise.proofs.Steps.{
 use Rattle.promise.proofs.Refusals.{served, tells-refusal}
 use Rattle.promise.proofs.Marks.{newest, newMark, list-over, meets-so, carried-so, between-so, again-so}
 use Rattle.promise.proofs.Tallies.{
-  covered-counts, open-counts, error-counts, counted-so, stands-so, marks-so, in-turn-so, rising-so, closing-so, finished-so,
+  covered-counts, open-counts, error-counts, counted-so, stands-so, ended-so, marks-so, in-turn-so, rising-so, closing-so, finished-so,
 }
 use Rattle.promise.proofs.Spaces.{spaced-so, names-so, differs-so}
 use Rattle.promise.proofs.Leads.{led-so}
@@ -75,49 +75,46 @@ module _ (C : Setting) (lawful : Lawful (C .family)) (accepted : Accepted (C .fa
   -- ---- any calls
 
   module _ (cs : List Call) where
-    abbrev turns : List Turn
-    turns = run C cs (first C)
-
     start : Fit C (first C)
     start = fit-first C lawful accepted
 
-    told : History C (first C) turns
+    told : History C (first C) (turns C cs)
     told = history C lawful accepted cs (first C) start
 
     -- of each turn, what holds of every call on a fit state
     each : (P : State → Turn → Type 0)
         → ((s : State) → Fit C s → (c : Call) → P s (record { call = c; answered = answer C c s; left = after C c (answer C c s) s }))
-        → Each P (first C) turns
+        → Each P (first C) (turns C cs)
     each P h = each-turn C lawful accepted P h cs (first C) start
 
     -- the marks are the plan's list up to the next new mark
-    parted : (b : Bool) × (marksMet (acts turns) ++ drop (newMark C (leaves (first C) turns) b) (planned C) ≡ planned C)
+    parted : (b : Bool) × (marksMet (acts (turns C cs)) ++ drop (newMark C (leftBy C cs) b) (planned C) ≡ planned C)
     unfolding first newest
     parted =
         let r = between-so C lawful accepted false (0, 0) (λ x. clash x refl) (λ x. clash x refl) told in
         (r .0, r .1 ∙ ap (λ k. drop k (planned C)) (number-first (C .legs)))
 
-    whole : leaves (first C) turns .ended ≡ true → marksMet (acts turns) ≡ planned C
+    whole : leftBy C cs .ended ≡ true → marksMet (acts (turns C cs)) ≡ planned C
     unfolding newest
     whole e =
-        let s : State = leaves (first C) turns in
-        sym (append-nil (marksMet (acts turns)))
-        ∙ ap (λ l. marksMet (acts turns) ++ l)
+        let s : State = leftBy C cs in
+        sym (append-nil (marksMet (acts (turns C cs))))
+        ∙ ap (λ l. marksMet (acts (turns C cs)) ++ l)
         (sym (list-over C) ∙ ap (λ b. drop (newest b (s .standing) (parted .0) (marks (C .legs)) (numberOf C s)) (planned C)) (sym e))
         ∙ parted .1
 
-    pub promise : Demand C turns
+    pub promise : Demand C (turns C cs)
     unfolding first after
     promise =
-        let xs : List Act = acts turns in
-        let covered : leaves (first C) turns .covered ≡ reports isRan xs = counted-so C isRan (λ s. s .covered) covered-counts told ∙ omega arith in
-        let opened : leaves (first C) turns .opened ≡ reports isGaveUp xs = counted-so C isGaveUp (λ s. s .opened) open-counts told ∙ omega arith in
+        let xs : List Act = acts (turns C cs) in
+        let covered : leftBy C cs .covered ≡ reports isRan xs = counted-so C isRan (λ s. s .covered) covered-counts told ∙ omega arith in
+        let opened : leftBy C cs .opened ≡ reports isGaveUp xs = counted-so C isGaveUp (λ s. s .opened) open-counts told ∙ omega arith in
         let in-turn : InTurn 0 (reportedAs isClosing none xs) = in-turn-so C none (λ x. clash x refl) told in
         let names : NamesFew (C .legs) (C .family .reach) 0 xs = names-so C lawful accepted told in
-        let last : Fit C (leaves (first C) turns) = fit-last told in
+        let last : Fit C (leftBy C cs) = fit-last told in
         record {
           everyMarkMeets = meets-so C lawful accepted told;
-          marksBegin = (drop (newMark C (leaves (first C) turns) (parted .0)) (planned C), parted .1);
+          marksBegin = (drop (newMark C (leftBy C cs) (parted .0)) (planned C), parted .1);
           marksAllAtEnd = whole;
           coveredCounts = covered ∙ sym (marks-so C isRan none (λ x. clash x refl) told);
           coveredOnce = rising-so xs 0 none in-turn;
@@ -135,7 +132,8 @@ module _ (C : Setting) (lawful : Lawful (C .family)) (accepted : Accepted (C .fa
           errorsStop = last .errors;
           closedInTurn = in-turn;
           closedCounts = omega (arith, covered, opened, closing-so xs, marks-so C isClosing none (λ x. clash x refl) told);
-          finishedCounts = finished-so C (leaves (first C) turns) last;
+          finishedCounts = finished-so C (leftBy C cs) last;
+          endAfterClosing = ended-so false (λ x. clash x refl) told;
           endRight = each (EndRight C) (λ s f c. record {
             only = λ k e. right-at s f c (theEnd k) e;
             always = λ room e en h. subst (λ c. answer C c s ≡ theEnd (marks (C .legs))) (sym e) (end-again s f room en h);

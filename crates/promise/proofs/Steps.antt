@@ -15,7 +15,7 @@ use Rattle.listing.specs.Orders.{Order, carry}
 use Rattle.listing.proofs.Numbers.{either, test}
 use Rattle.promise.specs.Plan.{Lawful, Accepted, marks, number}
 use Rattle.promise.specs.Campaign.{
-  State, withPanel, withMark, placed, Call, request, report, Word, ran, error, gaveUp, wordOf, isRan, isError, isGaveUp, tick, tallied, Answer, movement,
+  State, withPanel, withMark, placed, Call, request, report, Word, ran, error, gaveUp, wordOf, isRan, isError, isGaveUp, isClosing, tick, tallied, Answer, movement,
   mark, theEnd, taken, refusal, Setting, first, toCome, here, rankOf, numberOf, wanted, todo, next, offer, answer, closed, heard, after,
 }
 use Rattle.promise.specs.Fitness.{OnTheWay, Fit}
@@ -40,7 +40,7 @@ pub data Does (C : Setting) (s : State) : Call → Answer → State → Type 0 w
   hands-out : {room : ℕ} → s .standing ≡ false → s .ended ≡ false → todo C s ≡ some []
       → Does C s (request room) (mark (numberOf C s) (rankOf C s)) (withMark true s)
   ends : {room : ℕ} → s .ended ≡ true → Does C s (request room) (theEnd (marks (C .legs))) s
-  closes : {kind : ℕ} {t : State} → s .standing ≡ true → isError (wordOf kind) ≡ false → Closes C (tallied (wordOf kind) s) t
+  closes : {kind : ℕ} {t : State} → s .standing ≡ true → isClosing (wordOf kind) ≡ true → Closes C (tallied (wordOf kind) s) t
       → Does C s (report kind) taken t
   errs : s .standing ≡ true → s .errors < C .limit → Does C s (report 1) taken (withMark false (tallied error s))
   refuses : {c : Call} (k : ℕ) → k ≢ 15 → Does C s c (refusal k) s
@@ -127,12 +127,18 @@ pub due-standing : {C : Setting} (s : State) → Fit C s → s .standing ≡ tru
 due-standing s f st = due s f (not-ended s f st)
 
 -- a word that closes adds one to the marks that are closed
-closing-word : (w : Word) → isError w ≡ false → tick (isRan w) + tick (isGaveUp w) ≡ 1
+closing-word : (w : Word) → isClosing w ≡ true → tick (isRan w) + tick (isGaveUp w) ≡ 1
 closing-word ran e = refl
-closing-word error e = clash refl e
+closing-word error e = clash e refl
 closing-word gaveUp e = refl
 
-pub closing-sum : (w : Word) (s : State) → isError w ≡ false → tallied w s .covered + tallied w s .opened ≡ suc (s .covered + s .opened)
+-- and is no error
+pub closing-error : (w : Word) → isClosing w ≡ true → isError w ≡ false
+closing-error ran e = refl
+closing-error error e = sym e
+closing-error gaveUp e = refl
+
+pub closing-sum : (w : Word) (s : State) → isClosing w ≡ true → tallied w s .covered + tallied w s .opened ≡ suc (s .covered + s .opened)
 closing-sum w s e = omega (arith, closing-word w e)
 
 module _ (C : Setting) (lawful : Lawful (C .family)) (accepted : Accepted (C .family) (C .legs)) where
@@ -226,7 +232,7 @@ module _ (C : Setting) (lawful : Lawful (C .family)) (accepted : Accepted (C .fa
   }
   fit-after f (ends en) = f
   fit-after {s} {t} f (closes {kind = kind} st ne h) =
-      fit-closed (tallied (wordOf kind) s) t (f .leg) (f .step) (omega (arith, f .errors, ap tick ne)) (f .atMark st)
+      fit-closed (tallied (wordOf kind) s) t (f .leg) (f .step) (omega (arith, f .errors, ap tick (closing-error (wordOf kind) ne))) (f .atMark st)
       (closing-sum (wordOf kind) s ne ∙ ap suc (due-standing s f st)) h
   fit-after {s} f (errs st lt) = record {
     leg = f .leg;

@@ -13,14 +13,14 @@ use Rattle.listing.specs.Orders.{carry}
 use Rattle.listing.proofs.Numbers.{either, test}
 use Rattle.promise.specs.Plan.{marks}
 use Rattle.promise.specs.Campaign.{
-  State, withPanel, withMark, placed, Word, ran, error, gaveUp, wordOf, isRan, isError, isGaveUp, tick, tallied, Setting, numberOf,
+  State, withPanel, withMark, placed, Word, ran, error, gaveUp, wordOf, isRan, isError, isGaveUp, isClosing, tick, tallied, Setting, numberOf,
 }
 use Rattle.promise.specs.Fitness.{Fit}
-use Rattle.promise.specs.Bench.{Turn, leaves, Act, moves, meets, says, acts, stands, isClosing, reports, reportedAs, Rising, InTurn}
+use Rattle.promise.specs.Bench.{Turn, leaves, Act, moves, meets, says, acts, stands, closedLast, reports, reportedAs, Rising, InTurn}
 use Rattle.promise.proofs.Tests.{clash}
 use Rattle.promise.proofs.Legs.{number-below}
 use Rattle.promise.proofs.Steps.{
-  Closes, to-step, to-leg, to-end, moves-on, hands-out, ends, closes, errs, refuses, due, due-standing, closing-sum, History, stop, then,
+  Closes, to-step, to-leg, to-end, moves-on, hands-out, ends, closes, errs, refuses, not-ended, due, due-standing, closing-sum, History, stop, then,
 }
 use Rattle.promise.proofs.Marks.{closed-so}
 
@@ -70,6 +70,18 @@ stands-so (then f (ends en) h) = stands-so h
 stands-so (then {ts = ts} f (closes st ne x) h) = stands-so h ∙ ap (λ b. stands b (acts ts)) (closed-so x .standing)
 stands-so (then f (errs st lt) h) = stands-so h
 stands-so (then f (refuses k n) h) = stands-so h
+
+-- the end is shown by a report that closes a mark, and nothing happens on the bench after it (b: whether such a report was the last act)
+pub ended-so : {C : Setting} {s : State} {ts : List Turn} (b : Bool) → (s .ended ≡ true → b ≡ true) → History C s ts
+    → leaves s ts .ended ≡ true → closedLast b (acts ts) ≡ true
+unfolding acts closedLast leaves
+ended-so b x (stop f) e = x e
+ended-so b x (then f (moves-on o os st en w) h) e = ended-so false (λ y. clash y en) h e
+ended-so b x (then f (hands-out st en w) h) e = ended-so false (λ y. clash y en) h e
+ended-so b x (then f (ends en) h) e = ended-so b x h e
+ended-so b x (then f (closes {kind = kind} st cl d) h) e = ended-so (isClosing (wordOf kind)) (λ y. cl) h e
+ended-so {s = s} b x (then f (errs st lt) h) e = ended-so false (λ y. clash y (not-ended s f st)) h e
+ended-so b x (then f (refuses k n) h) e = ended-so b x h e
 
 -- ---- reports are on the mark that stood
 

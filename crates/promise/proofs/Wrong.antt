@@ -2,7 +2,7 @@
 -- Assumes nothing.
 use mathlib.Core.Path.{_≡_, refl, sym, ap, _∙_}
 use mathlib.Core.Logic.{_≢_}
-use mathlib.Core.Bool.{Bool, true, false, cond}
+use mathlib.Core.Bool.{Bool, true, false, not, cond}
 use mathlib.Core.List.{List, [], _∷_, _++_, map}
 use mathlib.Core.Option.{Option, none, some}
 use Prim.Native.Nat.{ℕ, zero, suc, _+_, _-_, _≤_, _<_}
@@ -11,9 +11,9 @@ use lib.ListN.{length, getD, length-append, List·getD-append}
 use lib.Seq.{getD-append-add}
 use Rattle.listing.specs.Orders.{Order}
 use Rattle.promise.specs.Plan.{Family, legAt, ranks, marks, number}
-use Rattle.promise.specs.Campaign.{State, Word, ran, error, isRan, isError, tick, theEnd, Setting, first}
+use Rattle.promise.specs.Campaign.{State, Word, ran, error, isRan, isClosing, tick, theEnd, Setting, first}
 use Rattle.promise.specs.Bench.{
-  Turn, leaves, Each, Act, moves, meets, says, bench, Meets, marksMet, numbered, Again, reports, andStanding, reportedAs, Spaced, EndRight,
+  Turn, leaves, Each, Act, moves, meets, says, bench, Meets, marksMet, numbered, Again, closedLast, reports, andStanding, reportedAs, Spaced, EndRight,
 }
 use Rattle.promise.specs.Demand.{Demanded}
 use Rattle.promise.proofs.Tests.{clash}
@@ -34,7 +34,7 @@ unfolding Again
 again-later again m [] ys h = (again, m, h)
 again-later again m (moves o ∷ xs) ys h = again-later again m xs ys (h .1)
 again-later again m (meets k r ∷ xs) ys h = again-later false (k, r) xs ys (h .1)
-again-later again m (says w ∷ xs) ys h = again-later (isError w) m xs ys h
+again-later again m (says w ∷ xs) ys h = again-later (not (isClosing w)) m xs ys h
 
 spaced-later : (most n : ℕ) (xs ys : List Act) → Spaced most n (xs ++ ys) → (j : ℕ) × Spaced most j ys
 unfolding Spaced
@@ -42,6 +42,13 @@ spaced-later most n [] ys h = (n, h)
 spaced-later most n (moves o ∷ xs) ys h = spaced-later most (suc n) xs ys (h .1)
 spaced-later most n (meets k r ∷ xs) ys h = spaced-later most 0 xs ys h
 spaced-later most n (says w ∷ xs) ys h = spaced-later most n xs ys h
+
+last-error : (b : Bool) (xs : List Act) → closedLast b (xs ++ says error ∷ []) ≡ false
+unfolding closedLast
+last-error b [] = refl
+last-error b (moves o ∷ xs) = last-error false xs
+last-error b (meets k r ∷ xs) = last-error false xs
+last-error b (says w ∷ xs) = last-error (isClosing w) xs
 
 each-later : (P : State → Turn → Type 0) (s : State) (ts us : List Turn) → Each P s (ts ++ us) → Each P (leaves s ts) us
 unfolding Each leaves
@@ -86,6 +93,11 @@ module _ (C : Setting) (ts : List Turn) (s : State) where
       let h : (b : Bool) × (l : ℕ × ℕ) × Again b l (meets k r ∷ says error ∷ moves o ∷ ys) =
       again-later false (0, 0) xs (meets k r ∷ says error ∷ moves o ∷ ys) (D .sameMarkAgain) in
       clash refl (h .2 .1 .0)
+
+  -- ---- the last mark closed by an error: the end is shown after it
+
+  pub ended-by-error : (xs : List Act) → s .ended ≡ true → ¬ Demanded C ts (xs ++ says error ∷ []) s
+  ended-by-error xs e D = clash (D .endAfterClosing e) (last-error false xs)
 
   -- ---- a mark skipped after an error: another one comes
 

@@ -13,7 +13,7 @@ use Rattle.listing.specs.Orders.{Order, carry}
 use Rattle.promise.specs.Carriage.{carriage}
 use Rattle.promise.specs.Plan.{jacks, Family, Leg, rankAt, ranks, marks, stepOf, legOf}
 use Rattle.promise.specs.Campaign.{
-  State, Call, request, report, Word, wordOf, isError, tick, Answer, movement, mark, theEnd, taken, refusal, Setting, answer, after,
+  State, Call, request, report, Word, wordOf, isClosing, tick, Answer, movement, mark, theEnd, taken, refusal, Setting, first, answer, after,
 }
 
 -- ---- calls, one after the other
@@ -35,6 +35,13 @@ run C (c ∷ cs) s =
 unfoldable pub leaves : State → List Turn → State
 leaves s [] = s
 leaves s (t ∷ ts) = leaves (t .left) ts
+
+-- of calls on a plan: their turns from its first state on, and the state that they leave
+abbrev pub turns : Setting → List Call → List Turn
+turns C cs = run C cs (first C)
+
+abbrev pub leftBy : Setting → List Call → State
+leftBy C cs = leaves (first C) (turns C cs)
 
 -- each turn, with the state that its call was given, is so
 unfoldable pub Each : (State → Turn → Type 0) → State → List Turn → Type 0
@@ -87,14 +94,14 @@ unfoldable pub fresh : Bool → ℕ × ℕ → List Act → List (ℕ × ℕ)
 fresh again m [] = []
 fresh again m (moves o ∷ xs) = fresh again m xs
 fresh again m (meets k r ∷ xs) = cond (again && isMark m k r) (fresh false (k, r) xs) ((k, r) ∷ fresh false (k, r) xs)
-fresh again m (says w ∷ xs) = fresh (isError w) m xs
+fresh again m (says w ∷ xs) = fresh (not (isClosing w)) m xs
 
 -- the panels at those marks, on a panel that starts as p and carries the orders out
 unfoldable pub shown : Bool → ℕ × ℕ → List ℕ → List Act → List (List ℕ)
 shown again m p [] = []
 shown again m p (moves o ∷ xs) = shown again m (carry o p) xs
 shown again m p (meets k r ∷ xs) = cond (again && isMark m k r) (shown false (k, r) p xs) (p ∷ shown false (k, r) p xs)
-shown again m p (says w ∷ xs) = shown (isError w) m p xs
+shown again m p (says w ∷ xs) = shown (not (isClosing w)) m p xs
 
 -- of a whole campaign: its marks, and the panels at them, repeats struck out
 abbrev pub marksMet : List Act → List (ℕ × ℕ)
@@ -121,7 +128,7 @@ unfoldable pub Again : Bool → ℕ × ℕ → List Act → Type 0
 Again again m [] = Unit {0}
 Again again m (moves o ∷ xs) = (again ≡ false) × Again again m xs
 Again again m (meets k r ∷ xs) = (again ≡ true → (k, r) ≡ m) × Again false (k, r) xs
-Again again m (says w ∷ xs) = Again (isError w) m xs
+Again again m (says w ∷ xs) = Again (not (isClosing w)) m xs
 
 -- ---- reports
 
@@ -132,9 +139,12 @@ stands b (moves o ∷ xs) = stands b xs
 stands b (meets k r ∷ xs) = stands true xs
 stands b (says w ∷ xs) = stands false xs
 
--- the words that close a mark
-abbrev pub isClosing : Word → Bool
-isClosing w = not (isError w)
+-- whether the last act is a report that closes a mark (b: whether it was so before)
+unfoldable pub closedLast : Bool → List Act → Bool
+closedLast b [] = b
+closedLast b (moves o ∷ xs) = closedLast false xs
+closedLast b (meets k r ∷ xs) = closedLast false xs
+closedLast b (says w ∷ xs) = closedLast (isClosing w) xs
 
 -- how many reports of a kind were taken
 unfoldable pub reports : (Word → Bool) → List Act → ℕ
@@ -185,7 +195,7 @@ unfoldable pub Led : Setting → Bool → List Order → List ℕ → List ℕ �
 Led C again os last p [] = Unit {0}
 Led C again os last p (moves o ∷ xs) = Led C again (os ++ (o ∷ [])) last (carry o p) xs
 Led C again os last p (meets k r ∷ xs) = (again ≡ false → os ≡ leadTo (C .family) (legOf (C .legs) k) (stepOf (C .legs) k) last) × Led C false [] p p xs
-Led C again os last p (says w ∷ xs) = Led C (isError w) os last p xs
+Led C again os last p (says w ∷ xs) = Led C (not (isClosing w)) os last p xs
 
 -- at a mark that is not its leg's first, the orders since the last mark name at most reach cords (n: those named since)
 unfoldable pub NamesFew : List Leg → ℕ → ℕ → List Act → Type 0

@@ -68,7 +68,7 @@ wordOf zero = ran
 wordOf (suc zero) = error
 wordOf (suc (suc kind)) = gaveUp
 
--- which word it is. An error is the one that does not close the mark
+-- which count it goes to
 abbrev pub isRan : Word → Bool
 isRan ran = true
 isRan error = false
@@ -83,6 +83,12 @@ abbrev pub isGaveUp : Word → Bool
 isGaveUp ran = false
 isGaveUp error = false
 isGaveUp gaveUp = true
+
+-- whether it closes the mark: an error does not, and the mark comes again
+abbrev pub isClosing : Word → Bool
+isClosing ran = true
+isClosing error = false
+isClosing gaveUp = true
 
 -- one where the test passes
 abbrev pub tick : Bool → ℕ
@@ -190,9 +196,9 @@ module _ (C : Setting) where
       (cond (ltb (suc (s .leg)) (length (C .legs))) (placed (suc (s .leg)) 0 false s)
       (placed (s .leg) (s .step) true s))
 
-  -- a report that is taken: after an error the mark stands no more, and is the next one still; ran and gave up close it
+  -- a report that is taken: ran and gave up close the mark; after an error it stands no more, and is the next one still
   unfoldable pub heard : Word → State → State
-  heard w s = cond (isError w) (withMark false (tallied w s)) (closed (tallied w s))
+  heard w s = cond (isClosing w) (closed (tallied w s)) (withMark false (tallied w s))
 
   -- the state that a call leaves: 'a movement order handed out counts as carried out in the state's panel'; a refusal and the end leave the state as it was
   unfoldable pub after : Call → Answer → State → State

@@ -10,10 +10,10 @@ use lib.ListN.{length, getD}
 use Rattle.listing.specs.Pattern.{Derangement}
 use Rattle.listing.specs.Orders.{Order, InShape}
 use Rattle.promise.specs.Plan.{Family, marks}
-use Rattle.promise.specs.Campaign.{State, isRan, isError, isGaveUp, movement, refusal, Setting, first}
+use Rattle.promise.specs.Campaign.{State, isRan, isError, isGaveUp, isClosing, movement, refusal, Setting, first}
 use Rattle.promise.specs.Fitness.{Fit, Why}
 use Rattle.promise.specs.Bench.{
-  Turn, leaves, Each, Act, acts, bench, Meets, marksMet, panelsMet, planned, Begins, Again, stands, isClosing, reports, reportedAs, Rising, InTurn, Spaced,
+  Turn, leaves, Each, Act, acts, bench, Meets, marksMet, panelsMet, planned, Begins, Again, stands, closedLast, reports, reportedAs, Rising, InTurn, Spaced,
   Led, NamesFew, DiffersFew, Suits, EndRight,
 }
 
@@ -63,6 +63,9 @@ pub record Demanded (C : Setting) (ts : List Turn) (xs : List Act) (s : State) :
 
   -- 'A finished campaign has covered plus open equal to the plan's marks', and no other has
   pub finishedCounts : (s .ended ≡ true) ↔ (s .covered + s .opened ≡ marks (C .legs))
+
+  -- 'At the plan's last mark leg and step stay and the end is shown from then': the last that happened on the bench is then the report that closed a mark
+  pub endAfterClosing : s .ended ≡ true → closedLast false xs ≡ true
 
   -- 'After the end, each request gives the end again', with the plan's marks; before it none does
   pub endRight : Each (EndRight C) (first C) ts
