@@ -13,7 +13,7 @@ use Rattle.listing.specs.Pattern.{Derangement}
 use Rattle.listing.specs.Orders.{carry}
 use Rattle.listing.proofs.Numbers.{either, below?, is-cases, suc-before}
 use Rattle.promise.specs.Plan.{Family, Lawful, Circuit, Leg, legAt, Accepted, stepped, walk, ranks}
-use Rattle.promise.specs.Campaign.{Call, Setting, first, isClosing}
+use Rattle.promise.specs.Campaign.{Call, Setting, isClosing}
 use Rattle.promise.specs.Bench.{turns, leftBy, Act, moves, meets, says, acts, Meets, isMark, fresh, shown, panelsMet, numbered}
 use Rattle.promise.specs.Demand.{Demand, Once, FullCircuit}
 use Rattle.promise.proofs.Legs.{length-walk, walk-at}

@@ -71,11 +71,11 @@ module _ (C : Setting) (lawful : Lawful (C .family)) (accepted : Accepted (C .fa
     led-from false [] (s .panel) (record { standing = λ y. (refl, refl); repeat = λ y. clash y refl; onward = λ x. clash refl x }) h,
   )
   led-from again os last L (then f (ends en) h) = led-from again os last L h
-  led-from {s} again os last L (then {t = t} {ts = ts} f (closes st ne x) h) =
+  led-from {s} again os last L (then {t = t} {ts = ts} f (closes st cl x) h) =
       let none-yet : (os ≡ []) × (last ≡ s .panel) = L .standing st in
       let later : Led C false [] (t .panel) (t .panel) (acts ts) =
       led-from false [] (t .panel) (leading-closed (f .leg) (f .atMark st) x (fit-start h)) h in
-      led-same C (acts ts) (ap not ne) (none-yet .0) (none-yet .1) (closed-so x .panel) later
+      led-same C (acts ts) (ap not cl) (none-yet .0) (none-yet .1) (closed-so x .panel) later
   led-from {s} again os last L (then f (errs st lt) h) = led-from true os last (record {
     standing = λ y. clash y refl;
     repeat = λ y. over-here C lawful accepted s f (f .atMark st);

@@ -4,8 +4,8 @@ pub mod Carriage
 pub mod Legs
 pub mod Ways
 pub mod Fitness
-pub mod Steps
 pub mod Refusals
+pub mod Steps
 pub mod Marks
 pub mod Tallies
 pub mod Differing

@@ -91,18 +91,7 @@ repeats m k r e =
     tells-and (eqb k (m .0)) (eqb r (m .1)) (tells-eqb k (m .0)) (tells-eqb r (m .1)) .1
     (sym (ap (λ (x : ℕ × ℕ). x .0) e), sym (ap (λ (x : ℕ × ℕ). x .1) e))
 
-module _ (C : Setting) (lawful : Lawful (C .family)) (accepted : Accepted (C .family) (C .legs)) where
-  -- ---- every mark meets the pattern of its rank
-  pub meets-so : {s : State} {ts : List Turn} → History C s ts → Meets (C .family) (s .panel) (acts ts)
-  unfolding acts Meets
-  meets-so (stop f) = tt
-  meets-so (then f (moves-on o os st en w) h) = meets-so h
-  meets-so {s} (then f (hands-out st en w) h) = (way-done (C .family) lawful (here C s) (s .step) (listed-here C lawful accepted s f) (s .panel) w, meets-so h)
-  meets-so (then f (ends en) h) = meets-so h
-  meets-so (then {ts = ts} f (closes st ne x) h) = subst (λ p. Meets (C .family) p (acts ts)) (closed-so x .panel) (meets-so h)
-  meets-so (then f (errs st lt) h) = meets-so h
-  meets-so (then f (refuses k n) h) = meets-so h
-
+module _ (C : Setting) where
   -- the panel of the bench is the state's
   pub carried-so : {s : State} {ts : List Turn} → History C s ts → bench (s .panel) (acts ts) ≡ leaves s ts .panel
   unfolding acts bench leaves
@@ -110,7 +99,7 @@ module _ (C : Setting) (lawful : Lawful (C .family)) (accepted : Accepted (C .fa
   carried-so (then f (moves-on o os st en w) h) = carried-so h
   carried-so (then f (hands-out st en w) h) = carried-so h
   carried-so (then f (ends en) h) = carried-so h
-  carried-so (then {t = t} {ts = ts} f (closes st ne x) h) = subst (λ p. bench p (acts ts) ≡ leaves t ts .panel) (closed-so x .panel) (carried-so h)
+  carried-so (then {t = t} {ts = ts} f (closes st cl x) h) = subst (λ p. bench p (acts ts) ≡ leaves t ts .panel) (closed-so x .panel) (carried-so h)
   carried-so (then f (errs st lt) h) = carried-so h
   carried-so (then f (refuses k n) h) = carried-so h
 
@@ -145,10 +134,10 @@ module _ (C : Setting) (lawful : Lawful (C .family)) (accepted : Accepted (C .fa
             ∙ sym (list-at C s f) ∙ ap (λ k. drop k plan) (sym (new-by C s false false false en st)),
       )
   between-so again m fa fs (then f (ends en) h) = between-so again m fa fs h
-  between-so {s} again m fa fs (then {t = t} {ts = ts} f (closes st ne x) h) =
+  between-so {s} again m fa fs (then {t = t} {ts = ts} f (closes st cl x) h) =
       let r = between-so false m (λ y. clash y refl) (λ y. clash y (closed-so x .standing)) h in (
         r .0,
-        ap (λ b. fresh (not b) m (acts ts) ++ drop (newMark C (leaves t ts) (r .0)) (planned C)) ne
+        ap (λ b. fresh (not b) m (acts ts) ++ drop (newMark C (leaves t ts) (r .0)) (planned C)) cl
             ∙ r .1 ∙ ap (λ k. drop k (planned C)) (new-closed x ∙ sym (new-by C s again false true (not-ended s f st) st)),
       )
   between-so {s} again m fa fs (then f (errs st lt) h) =
@@ -158,6 +147,18 @@ module _ (C : Setting) (lawful : Lawful (C .family)) (accepted : Accepted (C .fa
             (new-by C (withMark false (tallied error s)) true false false (not-ended s f st) refl ∙ sym (new-by C s again false true (not-ended s f st) st)),
       )
   between-so again m fa fs (then f (refuses k n) h) = between-so again m fa fs h
+
+module _ (C : Setting) (lawful : Lawful (C .family)) (accepted : Accepted (C .family) (C .legs)) where
+  -- ---- every mark meets the pattern of its rank
+  pub meets-so : {s : State} {ts : List Turn} → History C s ts → Meets (C .family) (s .panel) (acts ts)
+  unfolding acts Meets
+  meets-so (stop f) = tt
+  meets-so (then f (moves-on o os st en w) h) = meets-so h
+  meets-so {s} (then f (hands-out st en w) h) = (way-done (C .family) lawful (here C s) (s .step) (listed-here C lawful accepted s f) (s .panel) w, meets-so h)
+  meets-so (then f (ends en) h) = meets-so h
+  meets-so (then {ts = ts} f (closes st cl x) h) = subst (λ p. Meets (C .family) p (acts ts)) (closed-so x .panel) (meets-so h)
+  meets-so (then f (errs st lt) h) = meets-so h
+  meets-so (then f (refuses k n) h) = meets-so h
 
   -- ---- after an error the panel is at the mark's pattern, and the same mark comes with no order between
   pub again-so : {s : State} {ts : List Turn} (again : Bool) (m : ℕ × ℕ) → (again ≡ true → (m ≡ markOf C s) × (todo C s ≡ some []))
@@ -171,8 +172,8 @@ module _ (C : Setting) (lawful : Lawful (C .family)) (accepted : Accepted (C .fa
       first-try false fa = refl
   again-so {s} again m fa fs (then f (hands-out st en w) h) = (λ x. sym (fa x .0), again-so false (markOf C s) (λ x. clash x refl) (λ x. refl) h)
   again-so again m fa fs (then f (ends en) h) = again-so again m fa fs h
-  again-so again m fa fs (then {ts = ts} f (closes st ne x) h) =
-      subst (λ b. Again (not b) m (acts ts)) (sym ne) (again-so false m (λ y. clash y refl) (λ y. clash y (closed-so x .standing)) h)
+  again-so again m fa fs (then {ts = ts} f (closes st cl x) h) =
+      subst (λ b. Again (not b) m (acts ts)) (sym cl) (again-so false m (λ y. clash y refl) (λ y. clash y (closed-so x .standing)) h)
   again-so {s} again m fa fs (then f (errs st lt) h) =
       again-so true m (λ y. (fs st, over-here C lawful accepted s f (f .atMark st))) (λ y. clash y refl) h
   again-so again m fa fs (then f (refuses k n) h) = again-so again m fa fs h

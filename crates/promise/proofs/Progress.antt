@@ -26,7 +26,7 @@ use Rattle.promise.proofs.Steps.{
   Closes, to-step, to-leg, to-end, moves-on, hands-out, ends, closes, errs, refuses, does-so, not-ended, closing-error, coming-here, over-here, step-on, fit-first,
   fit-after, History, stop, then, fit-last, history,
 }
-use Rattle.promise.proofs.Refusals.{served, accepted-report, offered}
+use Rattle.promise.proofs.Refusals.{served, ran-taken, offered}
 use Rattle.promise.proofs.Tallies.{error-counts, counted-so}
 
 -- the work by its parts
@@ -136,8 +136,8 @@ module _ (C : Setting) (lawful : Lawful (C .family)) (accepted : Accepted (C .fa
   worked {s} (then f (moves-on o os st en w) h) = omega (arith, worked h, work-moved s f o os st en w)
   worked {s} (then f (hands-out st en w) h) = omega (arith, worked h, work-marked s st en w)
   worked (then f (ends en) h) = omega (arith, worked h)
-  worked {s} (then {t = t} f (closes {kind = kind} st ne x) h) =
-      omega (arith, worked h, work-closing s t kind f st x (fit-after C lawful accepted f (closes {kind = kind} st ne x)), ap tick (closing-error (wordOf kind) ne))
+  worked {s} (then {t = t} f (closes {kind = kind} st cl x) h) =
+      omega (arith, worked h, work-closing s t kind f st x (fit-after C lawful accepted f (closes {kind = kind} st cl x)), ap tick (closing-error (wordOf kind) cl))
   worked {s} (then f (errs st lt) h) = omega (arith, worked h, work-erred s f st)
   worked (then f (refuses k n) h) = omega (arith, worked h)
 
@@ -148,7 +148,7 @@ module _ (C : Setting) (lawful : Lawful (C .family)) (accepted : Accepted (C .fa
   ended-stays e (then f (moves-on o os st en w) h) = clash e en
   ended-stays e (then f (hands-out st en w) h) = clash e en
   ended-stays e (then f (ends en) h) = ended-stays e h
-  ended-stays {s} e (then f (closes st ne x) h) = clash e (not-ended s f st)
+  ended-stays {s} e (then f (closes st cl x) h) = clash e (not-ended s f st)
   ended-stays {s} e (then f (errs st lt) h) = clash e (not-ended s f st)
   ended-stays e (then f (refuses k n) h) = ended-stays e h
 
@@ -159,7 +159,7 @@ module _ (C : Setting) (lawful : Lawful (C .family)) (accepted : Accepted (C .fa
   all-bring (then f (moves-on o os st en w) h) u e = omega (arith, all-bring h (u .1) e)
   all-bring (then f (hands-out st en w) h) u e = omega (arith, all-bring h (u .1) e)
   all-bring (then f (ends en) h) u e = clash (ended-stays en h) e
-  all-bring (then f (closes st ne x) h) u e = omega (arith, all-bring h (u .1) e)
+  all-bring (then f (closes st cl x) h) u e = omega (arith, all-bring h (u .1) e)
   all-bring (then f (errs st lt) h) u e = omega (arith, all-bring h (u .1) e)
   all-bring (then f (refuses k n) h) u e = absurd (u .0 k refl)
 
@@ -199,7 +199,7 @@ module _ (C : Setting) (lawful : Lawful (C .family)) (accepted : Accepted (C .fa
   due-answered s f k = by-mark (s .standing) refl
     where
       by-mark : (b : Bool) → s .standing ≡ b → answer C (cond b (report 0) (request (C .width (offer C s)))) s ≢ refusal k
-      by-mark true st e = let z : _≡_ {A = ℕ} 0 1 = cc (accepted-report C s 0 f (omega arith) st (λ x. absurd (omega arith))) in omega arith
+      by-mark true st e = let z : _≡_ {A = ℕ} 0 1 = cc (ran-taken C s f st) in omega arith
       by-mark false st e = offered C s f st k (sym (served C s (C .width (offer C s)) f st (omega arith)) ∙ e)
 
   due-unrefused : (n : ℕ) (s : State) → Fit C s → Unrefused (run C (promptly C n s) s)

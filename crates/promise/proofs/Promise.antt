@@ -39,7 +39,7 @@ suits-so : {C : Setting} {s t : State} {c : Call} {a : Answer} → Does C s c a 
 suits-so (moves-on o os st en w) = refl
 suits-so (hands-out st en w) = refl
 suits-so (ends en) = refl
-suits-so (closes st ne x) = refl
+suits-so (closes st cl x) = refl
 suits-so (errs st lt) = refl
 suits-so (refuses k n) = tt
 
@@ -56,7 +56,7 @@ module _ (C : Setting) (lawful : Lawful (C .family)) (accepted : Accepted (C .fa
   right-so {s} f (moves-on o os st en w) = coming-here C lawful accepted s f (o ∷ os) w .shaped .0
   right-so f (hands-out st en w) = tt
   right-so f (ends en) = (en, refl)
-  right-so f (closes st ne x) = tt
+  right-so f (closes st cl x) = tt
   right-so f (errs st lt) = tt
   right-so f (refuses k n) = n
 
@@ -91,7 +91,7 @@ module _ (C : Setting) (lawful : Lawful (C .family)) (accepted : Accepted (C .fa
     parted : (b : Bool) × (marksMet (acts (turns C cs)) ++ drop (newMark C (leftBy C cs) b) (planned C) ≡ planned C)
     unfolding first newest
     parted =
-        let r = between-so C lawful accepted false (0, 0) (λ x. clash x refl) (λ x. clash x refl) told in
+        let r = between-so C false (0, 0) (λ x. clash x refl) (λ x. clash x refl) told in
         (r .0, r .1 ∙ ap (λ k. drop k (planned C)) (number-first (C .legs)))
 
     whole : leftBy C cs .ended ≡ true → marksMet (acts (turns C cs)) ≡ planned C
@@ -124,7 +124,7 @@ module _ (C : Setting) (lawful : Lawful (C .family)) (accepted : Accepted (C .fa
               (omega (arith, differing-same (C .family .home))) names;
           ordersLead = led-so C lawful accepted told;
           markStands = stands-so told;
-          panelIsCarried = carried-so C lawful accepted told;
+          panelIsCarried = carried-so C told;
           sameMarkAgain = again-so C lawful accepted false (0, 0) (λ x. clash x refl) (λ x. clash x refl) told;
           coveredReports = covered;
           openReports = opened;

@@ -1,14 +1,15 @@
--- Each refusal is given exactly when the paper says, in its order: 15, 14, 12, 13, 16, 2. And what is answered where none of them has a reason.
+-- What a call answers, by the paper's reasons: each refusal is given exactly when the paper says, in its order 15, 14, 12, 13, 16, 2, and where none has a
+-- reason a request gives what is offered and a report is taken.
 -- Assumes nothing.
 use mathlib.Core.Path.{_≡_, refl, sym, ap, _∙_, subst}
-use mathlib.Core.Logic.{_↔_}
+use mathlib.Core.Logic.{_≢_, _↔_}
 use mathlib.Core.Bool.{Bool, true, false, not, cond, _&&_}
 use mathlib.Core.List.{List, [], _∷_}
 use mathlib.Core.Option.{Option, none, some}
 use Prim.Native.Nat.{ℕ, zero, suc, _≤_, _<_}
 use native.Mathlib.Omega.{arith}
 use lib.Dec.{leb, ltb}
-use borrow.Author.Tests.{ltb-true, ltb-false, leb-true, lt-ltb, le-ltb, le-leb, lt-leb}
+use borrow.Author.Tests.{ltb-true, ltb-false, leb-true, leb-false, lt-ltb, le-ltb, le-leb}
 use Rattle.listing.specs.Orders.{Order}
 use Rattle.listing.proofs.Numbers.{either, test}
 use Rattle.promise.specs.Plan.{marks}
@@ -23,15 +24,21 @@ use Rattle.promise.proofs.Fitness.{tells-fit}
 refusal-eq : {j k : ℕ} → refusal j ≡ refusal k → j ≡ k
 refusal-eq e = cc
 
--- ---- what is answered, reason by reason
+-- the answer to a call on a fit state: a refusal with its reason, what is offered, or that the report is taken
+pub data Answered (C : Setting) (s : State) : Call → Answer → Type 0 where
+  refused : {c : Call} {k : ℕ} → Why C s c k → Answered C s c (refusal k)
+  given : {room : ℕ} → s .standing ≡ false → Answered C s (request room) (offer C s)
+  heeded : {kind : ℕ} → s .standing ≡ true → kind ≤ 2 → (kind ≡ 1 → s .errors < C .limit) → Answered C s (report kind) taken
+
+-- ---- reason by reason
 
 module _ (C : Setting) (s : State) where
-  -- after 15 a request is judged by the standing mark, then by the room for its line
-  after-room : ℕ → Bool → Answer
-  after-room room b = cond b (refusal 2) (offer C s)
+  -- after 15, a request is judged by the standing mark, then by the room for its line
+  by-room : ℕ → Bool → Answer
+  by-room room b = cond b (refusal 2) (offer C s)
 
-  after-mark : ℕ → Bool → Answer
-  after-mark room b = cond b (refusal 13) (after-room room (ltb room (C .width (offer C s))))
+  by-mark : ℕ → Bool → Answer
+  by-mark room b = cond b (refusal 13) (by-room room (ltb room (C .width (offer C s))))
 
   -- a report by its kind, by the standing mark, by the errors counted
   at-errors : ℕ → Bool → Answer
@@ -43,8 +50,8 @@ module _ (C : Setting) (s : State) where
   at-kind : ℕ → Bool → Answer
   at-kind kind b = cond b (refusal 14) (at-mark kind (s .standing))
 
-  request-fit : (room : ℕ) → Fit C s → answer C (request room) s ≡ after-mark room (s .standing)
-  unfolding answer after-room after-mark
+  request-fit : (room : ℕ) → Fit C s → answer C (request room) s ≡ by-mark room (s .standing)
+  unfolding answer by-room by-mark
   request-fit room f = rw (tells-fit C s .1 f)
 
   report-fit : (kind : ℕ) → Fit C s → answer C (report kind) s ≡ at-kind kind (ltb 2 kind)
@@ -56,34 +63,58 @@ module _ (C : Setting) (s : State) where
   not-fit (request room) n = rw (fails (fit C s) (tells-fit C s) n)
   not-fit (report kind) n = rw (fails (fit C s) (tells-fit C s) n)
 
-  -- ---- each reason is answered by its refusal
+  -- ---- each call on a fit state is answered so
+
+  pub answered-so : (c : Call) → Fit C s → Answered C s c (answer C c s)
+  unfolding by-room by-mark at-errors at-mark at-kind
+  answered-so (request room) f = rw (request-fit room f) (mark-test (s .standing) refl)
+    where
+      room-test : (b : Bool) → s .standing ≡ false → ltb room (C .width (offer C s)) ≡ b → Answered C s (request room) (by-room room b)
+      room-test true st e = refused (noRoom f st (ltb-true room (C .width (offer C s)) e))
+      room-test false st e = given st
+
+      mark-test : (b : Bool) → s .standing ≡ b → Answered C s (request room) (by-mark room b)
+      mark-test true st = refused (markStands f st)
+      mark-test false st = room-test (ltb room (C .width (offer C s))) st refl
+  answered-so (report kind) f = rw (report-fit kind f) (kind-test (ltb 2 kind) refl)
+    where
+      errors-test : (kind : ℕ) (b : Bool) → kind ≤ 2 → s .standing ≡ true → leb (C .limit) (s .errors) ≡ b → Answered C s (report kind) (at-errors kind b)
+      errors-test zero b h st e = heeded st h (λ x. absurd (omega arith))
+      errors-test (suc zero) true h st e = refused (errorsFull f st (omega (arith, leb-true (C .limit) (s .errors) e, f .errors)))
+      errors-test (suc zero) false h st e = heeded st h (λ x. leb-false (C .limit) (s .errors) e)
+      errors-test (suc (suc kind)) b h st e = heeded st h (λ x. absurd (omega arith))
+
+      mark-test : (b : Bool) → s .standing ≡ b → kind ≤ 2 → Answered C s (report kind) (at-mark kind b)
+      mark-test true st h = errors-test kind (leb (C .limit) (s .errors)) h st refl
+      mark-test false st h = refused (noMark f h st)
+
+      kind-test : (b : Bool) → ltb 2 kind ≡ b → Answered C s (report kind) (at-kind kind b)
+      kind-test true e = refused (kindAbove f (ltb-true 2 kind e))
+      kind-test false e = mark-test (s .standing) refl (ltb-false 2 kind e)
+
+  -- ---- and for each reason its refusal is given
 
   pub refused-so : {c : Call} {k : ℕ} → Why C s c k → answer C c s ≡ refusal k
-  unfolding after-room after-mark at-errors at-mark at-kind
+  unfolding by-room by-mark at-errors at-mark at-kind
   refused-so {c} (unfit n) = not-fit c n
   refused-so (kindAbove {kind = kind} f h) = report-fit kind f ∙ ap (at-kind kind) (lt-ltb 2 kind h)
   refused-so (noMark {kind = kind} f h st) = report-fit kind f ∙ ap (at-kind kind) (le-ltb 2 kind h) ∙ ap (at-mark kind) st
-  refused-so (markStands {room = room} f st) = request-fit room f ∙ ap (after-mark room) st
+  refused-so (markStands {room = room} f st) = request-fit room f ∙ ap (by-mark room) st
   refused-so (errorsFull f st e) =
       report-fit 1 f ∙ ap (at-mark 1) st ∙ ap (at-errors 1) (le-leb (C .limit) (s .errors) (omega arith))
-  refused-so (noRoom {room = room} f st h) = request-fit room f ∙ ap (after-mark room) st ∙ ap (after-room room) (lt-ltb room (C .width (offer C s)) h)
+  refused-so (noRoom {room = room} f st h) = request-fit room f ∙ ap (by-mark room) st ∙ ap (by-room room) (lt-ltb room (C .width (offer C s)) h)
 
-  -- ---- where none of them holds
+  -- ---- where none has a reason
 
   -- a request with room for its line gives the line's order where no mark stands
   pub served : (room : ℕ) → Fit C s → s .standing ≡ false → C .width (offer C s) ≤ room → answer C (request room) s ≡ offer C s
-  unfolding after-room after-mark
-  served room f st h = request-fit room f ∙ ap (after-mark room) st ∙ ap (after-room room) (le-ltb room (C .width (offer C s)) h)
+  unfolding by-room by-mark
+  served room f st h = request-fit room f ∙ ap (by-mark room) st ∙ ap (by-room room) (le-ltb room (C .width (offer C s)) h)
 
-  -- a standing mark takes a report of a known kind, an error only while errors are below the limit
-  pub accepted-report : (kind : ℕ) → Fit C s → kind ≤ 2 → s .standing ≡ true → (kind ≡ 1 → s .errors < C .limit) → answer C (report kind) s ≡ taken
+  -- a standing mark takes the report that it ran
+  pub ran-taken : Fit C s → s .standing ≡ true → answer C (report 0) s ≡ taken
   unfolding at-errors at-mark at-kind
-  accepted-report kind f h st below = report-fit kind f ∙ ap (at-kind kind) (le-ltb 2 kind h) ∙ ap (at-mark kind) st ∙ last kind below
-    where
-      last : (kind : ℕ) → (kind ≡ 1 → s .errors < C .limit) → at-errors kind (leb (C .limit) (s .errors)) ≡ taken
-      last zero b = refl
-      last (suc zero) b = ap (at-errors 1) (lt-leb (C .limit) (s .errors) (b refl))
-      last (suc (suc kind)) b = refl
+  ran-taken f st = report-fit 0 f ∙ ap (at-mark 0) st
 
   -- what is offered in a fit state is no refusal
   pub offered : Fit C s → s .standing ≡ false → (k : ℕ) → offer C s ≡ refusal k → ⊥
@@ -101,49 +132,27 @@ module _ (C : Setting) (s : State) where
           let w : (vs : List Order) × (todo C s ≡ some vs) = way-found (C .family) (here C s) (s .step) (s .panel) (f .between st en) in
           by-way (todo C s) (w .0) (w .1) h
 
-  -- ---- each refusal has its reason
+  -- ---- a call is refused with a number exactly if the paper gives the reason
 
-  why-request : (room k : ℕ) → Fit C s → after-mark room (s .standing) ≡ refusal k → Why C s (request room) k
-  unfolding after-room after-mark
-  why-request room k f = by-mark (s .standing) refl
-    where
-      by-room : (b : Bool) → s .standing ≡ false → ltb room (C .width (offer C s)) ≡ b → after-room room b ≡ refusal k → Why C s (request room) k
-      by-room true st e h = subst (Why C s (request room)) (refusal-eq h) (noRoom f st (ltb-true room (C .width (offer C s)) e))
-      by-room false st e h = absurd (offered f st k h)
+  why-answered : {c : Call} {a : Answer} → Fit C s → Answered C s c a → (k : ℕ) → a ≡ refusal k → Why C s c k
+  why-answered {c} f (refused w) k e = subst (Why C s c) (refusal-eq e) w
+  why-answered f (given st) k e = absurd (offered f st k e)
+  why-answered f (heeded st h b) k e = absurd (let z : _≡_ {A = ℕ} 0 1 = cc in omega arith)
 
-      by-mark : (b : Bool) → s .standing ≡ b → after-mark room b ≡ refusal k → Why C s (request room) k
-      by-mark true st h = subst (Why C s (request room)) (refusal-eq h) (markStands f st)
-      by-mark false st h = by-room (ltb room (C .width (offer C s))) st refl h
+  why-refused : (c : Call) (k : ℕ) → answer C c s ≡ refusal k → Why C s c k
+  why-refused c k h =
+      either (test (fit C s))
+      (λ e. let f : Fit C s = tells-fit C s .0 e in why-answered f (answered-so c f) k h)
+      (λ e. let n : ¬ Fit C s = λ f. clash (tells-fit C s .1 f) e in subst (Why C s c) (refusal-eq (sym (not-fit c n) ∙ h)) (unfit n))
 
-  why-report : (kind k : ℕ) → Fit C s → at-kind kind (ltb 2 kind) ≡ refusal k → Why C s (report kind) k
-  unfolding at-errors at-mark at-kind
-  why-report kind k f = by-kind (ltb 2 kind) refl
-    where
-      by-errors : (kind : ℕ) (b : Bool) → s .standing ≡ true → leb (C .limit) (s .errors) ≡ b → at-errors kind b ≡ refusal k → Why C s (report kind) k
-      by-errors zero b st e h = absurd (let z : _≡_ {A = ℕ} 0 1 = cc in omega arith)
-      by-errors (suc zero) true st e h =
-          subst (Why C s (report 1)) (refusal-eq h) (errorsFull f st (omega (arith, leb-true (C .limit) (s .errors) e, f .errors)))
-      by-errors (suc zero) false st e h = absurd (let z : _≡_ {A = ℕ} 0 1 = cc in omega arith)
-      by-errors (suc (suc kind)) b st e h = absurd (let z : _≡_ {A = ℕ} 0 1 = cc in omega arith)
-
-      by-mark : (b : Bool) → s .standing ≡ b → kind ≤ 2 → at-mark kind b ≡ refusal k → Why C s (report kind) k
-      by-mark true st le h = by-errors kind (leb (C .limit) (s .errors)) st refl h
-      by-mark false st le h = subst (Why C s (report kind)) (refusal-eq h) (noMark f le st)
-
-      by-kind : (b : Bool) → ltb 2 kind ≡ b → at-kind kind b ≡ refusal k → Why C s (report kind) k
-      by-kind true e h = subst (Why C s (report kind)) (refusal-eq h) (kindAbove f (ltb-true 2 kind e))
-      by-kind false e h = by-mark (s .standing) refl (ltb-false 2 kind e) h
-
-  pub why-refused : (c : Call) (k : ℕ) → answer C c s ≡ refusal k → Why C s c k
-  why-refused c k h = either (test (fit C s)) (λ e. by-call c (tells-fit C s .0 e) h) (λ e. by-unfit (λ f. clash (tells-fit C s .1 f) e))
-    where
-      by-call : (c : Call) → Fit C s → answer C c s ≡ refusal k → Why C s c k
-      by-call (request room) f h = why-request room k f (sym (request-fit room f) ∙ h)
-      by-call (report kind) f h = why-report kind k f (sym (report-fit kind f) ∙ h)
-
-      by-unfit : ¬ Fit C s → Why C s c k
-      by-unfit n = subst (Why C s c) (refusal-eq (sym (not-fit c n) ∙ h)) (unfit n)
-
-  -- a call is refused with a number exactly if the paper gives the reason
   pub tells-refusal : (c : Call) (k : ℕ) → (answer C c s ≡ refusal k) ↔ Why C s c k
   tells-refusal c k = (why-refused c k, refused-so)
+
+  -- a fit state has no reason for 15
+  pub no-fifteen : {c : Call} {k : ℕ} → Fit C s → Why C s c k → k ≢ 15
+  no-fifteen f (unfit n) = absurd (n f)
+  no-fifteen f (kindAbove x h) = omega arith
+  no-fifteen f (noMark x h st) = omega arith
+  no-fifteen f (markStands x st) = omega arith
+  no-fifteen f (errorsFull x st e) = omega arith
+  no-fifteen f (noRoom x st h) = omega arith

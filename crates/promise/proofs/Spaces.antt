@@ -40,7 +40,7 @@ module _ (C : Setting) (lawful : Lawful (C .family)) (accepted : Accepted (C .fa
       (omega (arith, r .0 (o ∷ os) w), spaced-from (suc n) (λ us e. omega (arith, r .0 (o ∷ os) w, ap length (some-eq (sym e ∙ v))), λ x. clash x st) h)
   spaced-from n r (then {t = t} f (hands-out st en w) h) = spaced-from 0 (room-first t (fit-start h)) h
   spaced-from n r (then f (ends en) h) = spaced-from n r h
-  spaced-from n r (then {t = t} f (closes st ne x) h) = rw (r .1 st) (spaced-from 0 (room-first t (fit-start h)) h)
+  spaced-from n r (then {t = t} f (closes st cl x) h) = rw (r .1 st) (spaced-from 0 (room-first t (fit-start h)) h)
   spaced-from n r (then {t = t} f (errs st lt) h) = rw (r .1 st) (spaced-from 0 (room-first t (fit-start h)) h)
   spaced-from n r (then f (refuses k x) h) = spaced-from n r h
 
@@ -68,7 +68,7 @@ module _ (C : Setting) (lawful : Lawful (C .family)) (accepted : Accepted (C .fa
     names-from 0 (slack-first t (fit-start h)) h,
   )
   names-from n r (then f (ends en) h) = names-from n r h
-  names-from n r (then {t = t} f (closes st ne x) h) = rw (r .1 st) (names-from 0 (slack-first t (fit-start h)) h)
+  names-from n r (then {t = t} f (closes st cl x) h) = rw (r .1 st) (names-from 0 (slack-first t (fit-start h)) h)
   names-from n r (then {t = t} f (errs st lt) h) = rw (r .1 st) (names-from 0 (slack-first t (fit-start h)) h)
   names-from n r (then f (refuses k x) h) = names-from n r h
 

@@ -2,14 +2,14 @@
 -- Assumes nothing.
 use mathlib.Core.Path.{_≡_, refl, sym, ap, _∙_, subst}
 use mathlib.Core.Logic.{_≢_}
-use mathlib.Core.Bool.{Bool, true, false, not, cond, _&&_}
+use mathlib.Core.Bool.{Bool, true, false, cond}
 use mathlib.Core.List.{List, [], _∷_}
 use mathlib.Core.Option.{Option, none, some}
 use Prim.Native.Nat.{ℕ, zero, suc, _+_, _≤_, _<_}
 use native.Mathlib.Omega.{arith}
-use lib.Dec.{leb, ltb}
+use lib.Dec.{ltb}
 use lib.ListN.{length}
-use borrow.Author.Tests.{ltb-true, ltb-false, leb-false}
+use borrow.Author.Tests.{ltb-true, ltb-false}
 use Rattle.listing.specs.Pattern.{Permutation}
 use Rattle.listing.specs.Orders.{Order, carry}
 use Rattle.listing.proofs.Numbers.{either, test}
@@ -23,7 +23,7 @@ use Rattle.promise.specs.Bench.{Turn, run, leaves, Each}
 use Rattle.promise.proofs.Tests.{clash}
 use Rattle.promise.proofs.Legs.{number-first, number-step, number-leg, number-last}
 use Rattle.promise.proofs.Ways.{Coming, Listed, no-none, coming, way-found, found-way, way-step, way-over, way-done, way-on}
-use Rattle.promise.proofs.Fitness.{tells-fit}
+use Rattle.promise.proofs.Refusals.{Answered, refused, given, heeded, answered-so, no-fifteen}
 
 -- ---- the relation
 
@@ -82,36 +82,20 @@ module _ (C : Setting) (s : State) (f : Fit C s) where
           let w : (vs : List Order) × (todo C s ≡ some vs) = way-found (C .family) (here C s) (s .step) (s .panel) (f .between st en) in
           by-way (todo C s) (w .0) refl (w .1) en
 
-  takes : (kind : ℕ) → s .standing ≡ true → (b : Bool) → leb (C .limit) (s .errors) ≡ b
-      → Doing C s (report kind) (cond (isError (wordOf kind) && b) (refusal 16) taken)
+  takes : (kind : ℕ) → s .standing ≡ true → (kind ≡ 1 → s .errors < C .limit) → Doing C s (report kind) taken
   unfolding after heard
-  takes zero st b e = closes st refl (closes-so C (tallied ran s) (f .leg) (f .step))
-  takes (suc zero) st true e = refuses 16 (omega arith)
-  takes (suc zero) st false e = errs st (leb-false (C .limit) (s .errors) e)
-  takes (suc (suc kind)) st b e = closes st refl (closes-so C (tallied gaveUp s) (f .leg) (f .step))
+  takes zero st below = closes st refl (closes-so C (tallied ran s) (f .leg) (f .step))
+  takes (suc zero) st below = errs st (below refl)
+  takes (suc (suc kind)) st below = closes st refl (closes-so C (tallied gaveUp s) (f .leg) (f .step))
+
+  does-answered : {c : Call} {a : Answer} → Answered C s c a → Doing C s c a
+  unfolding after
+  does-answered (refused {k = k} w) = refuses k (no-fifteen C s f w)
+  does-answered (given {room = room} st) = offers room st
+  does-answered (heeded {kind = kind} st h below) = takes kind st below
 
   pub does-so : (c : Call) → Doing C s c (answer C c s)
-  unfolding answer after
-  does-so (request room) = rw (tells-fit C s .1 f) (by-mark (s .standing) refl)
-    where
-      by-room : s .standing ≡ false → (b : Bool) → Doing C s (request room) (cond b (refusal 2) (offer C s))
-      by-room st true = refuses 2 (omega arith)
-      by-room st false = offers room st
-
-      by-mark : (b : Bool) → s .standing ≡ b → Doing C s (request room) (cond b (refusal 13) (cond (ltb room (C .width (offer C s))) (refusal 2) (offer C s)))
-      by-mark true st = refuses 13 (omega arith)
-      by-mark false st = by-room st (ltb room (C .width (offer C s)))
-  does-so (report kind) = rw (tells-fit C s .1 f) (by-kind (ltb 2 kind))
-    where
-      by-mark : (b : Bool) → s .standing ≡ b
-          → Doing C s (report kind) (cond (not b) (refusal 12) (cond (isError (wordOf kind) && leb (C .limit) (s .errors)) (refusal 16) taken))
-      by-mark true st = takes kind st (leb (C .limit) (s .errors)) refl
-      by-mark false st = refuses 12 (omega arith)
-
-      by-kind : (b : Bool) → Doing C s (report kind) (cond b (refusal 14)
-          (cond (not (s .standing)) (refusal 12) (cond (isError (wordOf kind) && leb (C .limit) (s .errors)) (refusal 16) taken)))
-      by-kind true = refuses 14 (omega arith)
-      by-kind false = by-mark (s .standing) refl
+  does-so c = does-answered (answered-so C s c f)
 
 -- ---- fit states are left fit
 
@@ -231,9 +215,9 @@ module _ (C : Setting) (lawful : Lawful (C .family)) (accepted : Accepted (C .fa
     between = λ x y. clash refl x;
   }
   fit-after f (ends en) = f
-  fit-after {s} {t} f (closes {kind = kind} st ne h) =
-      fit-closed (tallied (wordOf kind) s) t (f .leg) (f .step) (omega (arith, f .errors, ap tick (closing-error (wordOf kind) ne))) (f .atMark st)
-      (closing-sum (wordOf kind) s ne ∙ ap suc (due-standing s f st)) h
+  fit-after {s} {t} f (closes {kind = kind} st cl h) =
+      fit-closed (tallied (wordOf kind) s) t (f .leg) (f .step) (omega (arith, f .errors, ap tick (closing-error (wordOf kind) cl))) (f .atMark st)
+      (closing-sum (wordOf kind) s cl ∙ ap suc (due-standing s f st)) h
   fit-after {s} f (errs st lt) = record {
     leg = f .leg;
     step = f .step;

@@ -55,7 +55,7 @@ module _ (C : Setting) (kind : Word → Bool) (count : State → ℕ) (counts : 
   counted-so {s} (then f (moves-on o os st en w) h) = omega (arith, counted-so h, counts .panel (carry o (s .panel)) s)
   counted-so {s} (then f (hands-out st en w) h) = omega (arith, counted-so h, counts .mark true s)
   counted-so (then f (ends en) h) = counted-so h
-  counted-so {s} (then f (closes {kind = k} st ne x) h) = omega (arith, counted-so h, closed-count x, counts .adds (wordOf k) s)
+  counted-so {s} (then f (closes {kind = k} st cl x) h) = omega (arith, counted-so h, closed-count x, counts .adds (wordOf k) s)
   counted-so {s} (then f (errs st lt) h) = omega (arith, counted-so h, counts .mark false (tallied error s), counts .adds error s)
   counted-so (then f (refuses k n) h) = counted-so h
 
@@ -67,7 +67,7 @@ stands-so (stop f) = refl
 stands-so (then f (moves-on o os st en w) h) = stands-so h
 stands-so (then f (hands-out st en w) h) = stands-so h
 stands-so (then f (ends en) h) = stands-so h
-stands-so (then {ts = ts} f (closes st ne x) h) = stands-so h ∙ ap (λ b. stands b (acts ts)) (closed-so x .standing)
+stands-so (then {ts = ts} f (closes st cl x) h) = stands-so h ∙ ap (λ b. stands b (acts ts)) (closed-so x .standing)
 stands-so (then f (errs st lt) h) = stands-so h
 stands-so (then f (refuses k n) h) = stands-so h
 
@@ -103,7 +103,7 @@ module _ (C : Setting) where
   marks-so kind o n (then f (moves-on _ os st en w) h) = marks-so kind o n h
   marks-so kind {s} o n (then f (hands-out st en w) h) = marks-so kind (some (numberOf C s)) (λ x. refl) h
   marks-so kind o n (then f (ends en) h) = marks-so kind o n h
-  marks-so kind {s} o n (then {ts = ts} f (closes {kind = k} st ne x) h) =
+  marks-so kind {s} o n (then {ts = ts} f (closes {kind = k} st cl x) h) =
       one-report kind (wordOf k) o (numberOf C s) (acts ts) (n st) (marks-so kind none (λ y. clash y (closed-so x .standing)) h)
   marks-so kind {s} o n (then {ts = ts} f (errs st lt) h) =
       one-report kind error o (numberOf C s) (acts ts) (n st) (marks-so kind none (λ y. clash y refl) h)
@@ -117,10 +117,10 @@ module _ (C : Setting) where
   in-turn-so o n (then f (moves-on _ os st en w) h) = in-turn-so o n h
   in-turn-so {s} o n (then f (hands-out st en w) h) = in-turn-so (some (numberOf C s)) (λ x. refl) h
   in-turn-so o n (then f (ends en) h) = in-turn-so o n h
-  in-turn-so {s} o n (then {t = t} {ts = ts} f (closes {kind = k} st ne x) h) =
+  in-turn-so {s} o n (then {t = t} {ts = ts} f (closes {kind = k} st cl x) h) =
       let later : InTurn (t .covered + t .opened) (reportedAs isClosing none (acts ts)) = in-turn-so none (λ y. clash y (closed-so x .standing)) h in
-      let sum : t .covered + t .opened ≡ suc (s .covered + s .opened) = closed-so x .sum ∙ closing-sum (wordOf k) s ne in
-      rw (ne, n st) (sym (due-standing s f st), subst (λ m. InTurn m (reportedAs isClosing none (acts ts))) sum later)
+      let sum : t .covered + t .opened ≡ suc (s .covered + s .opened) = closed-so x .sum ∙ closing-sum (wordOf k) s cl in
+      rw (cl, n st) (sym (due-standing s f st), subst (λ m. InTurn m (reportedAs isClosing none (acts ts))) sum later)
   in-turn-so {s} o n (then {ts = ts} f (errs st lt) h) =
       subst (λ m. InTurn m (reportedAs isClosing none (acts ts))) (omega arith) (in-turn-so none (λ y. clash y refl) h)
   in-turn-so o n (then f (refuses k x) h) = in-turn-so o n h

@@ -55,6 +55,13 @@ unfolding Each leaves
 each-later P s [] us h = h
 each-later P s (t ∷ ts) us h = each-later P (t .left) ts us (h .1)
 
+-- orders in a row take up the room between marks
+row : (most n : ℕ) (os : List Order) (ys : List Act) → Spaced most n (map moves os ++ ys) → 0 < length os → n + length os ≤ most
+unfolding Spaced
+row most n [] ys h any = absurd (omega arith)
+row most n (o ∷ []) ys h any = omega (arith, h .0)
+row most n (o ∷ p ∷ os) ys h any = omega (arith, row most (suc n) (p ∷ os) ys (h .1) (omega arith))
+
 module _ (C : Setting) (ts : List Turn) (s : State) where
   -- ---- bare marks: a mark is handed out with no order since a mark of another pattern
 
@@ -67,12 +74,6 @@ module _ (C : Setting) (ts : List Turn) (s : State) where
       differ (sym (h .0) ∙ h .1 .0)
 
   -- ---- cords moved for ever: as many orders as ports come without a mark between
-
-  row : (most n : ℕ) (os : List Order) (ys : List Act) → Spaced most n (map moves os ++ ys) → 0 < length os → n + length os ≤ most
-  unfolding Spaced
-  row most n [] ys h any = absurd (omega arith)
-  row most n (o ∷ []) ys h any = omega (arith, h .0)
-  row most n (o ∷ p ∷ os) ys h any = omega (arith, row most (suc n) (p ∷ os) ys (h .1) (omega arith))
 
   pub moves-for-ever : (xs ys : List Act) (os : List Order) → 0 < length os → C .family .ports ≤ length os → ¬ Demanded C ts (xs ++ (map moves os ++ ys)) s
   moves-for-ever xs ys os any many D =
