@@ -23,10 +23,10 @@ use Rattle.promise.proofs.Tests.{clash}
 use Rattle.promise.proofs.Legs.{number-below, number-first, number-step, number-leg}
 use Rattle.promise.proofs.Ways.{way-found}
 use Rattle.promise.proofs.Steps.{
-  Closes, to-step, to-leg, to-end, moves-on, hands-out, ends, closes, errs, refuses, does-so, not-ended, closing-error, coming-here, over-here, step-on, fit-first,
-  fit-after, History, stop, then, fit-last, history,
+  Closes, to-step, to-leg, to-end, moves-on, hands-out, ends, closes, errs, refuses, does-so, not-ended, closing-error, coming-here, over-here, step-on,
+  fit-first, fit-after, History, stop, then, fit-last, history,
 }
-use Rattle.promise.proofs.Refusals.{served, ran-taken, offered}
+use Rattle.promise.proofs.Refusals.{offered-so, no-refusal, served, ran-taken}
 use Rattle.promise.proofs.Tallies.{error-counts, counted-so}
 
 -- the work by its parts
@@ -200,7 +200,7 @@ module _ (C : Setting) (lawful : Lawful (C .family)) (accepted : Accepted (C .fa
     where
       by-mark : (b : Bool) → s .standing ≡ b → answer C (cond b (report 0) (request (C .width (offer C s)))) s ≢ refusal k
       by-mark true st e = let z : _≡_ {A = ℕ} 0 1 = cc (ran-taken C s f st) in omega arith
-      by-mark false st e = offered C s f st k (sym (served C s (C .width (offer C s)) f st (omega arith)) ∙ e)
+      by-mark false st e = no-refusal (offered-so C s f st) k (sym (served C s (C .width (offer C s)) f st (omega arith)) ∙ e)
 
   due-unrefused : (n : ℕ) (s : State) → Fit C s → Unrefused (run C (promptly C n s) s)
   unfolding promptly run Unrefused

@@ -12,13 +12,11 @@ use Rattle.listing.specs.Orders.{Order, InShape}
 use Rattle.listing.proofs.Moves.{differing-same}
 use Rattle.promise.specs.Plan.{Lawful, Accepted, marks}
 use Rattle.promise.specs.Campaign.{
-  State, Call, request, isRan, isError, isGaveUp, isClosing, Answer, movement, mark, theEnd, taken, refusal, Setting, first, numberOf, todo, next, offer, answer,
-  after,
+  State, Call, request, isRan, isError, isGaveUp, isClosing, Answer, movement, mark, theEnd, taken, refusal, Setting, first, numberOf, todo, next, offer,
+  answer, after,
 }
 use Rattle.promise.specs.Fitness.{Fit, Why}
-use Rattle.promise.specs.Bench.{
-  Turn, turns, leftBy, Each, Act, acts, marksMet, planned, reports, reportedAs, InTurn, NamesFew, Suits, EndRight,
-}
+use Rattle.promise.specs.Bench.{Turn, turns, leftBy, Each, Act, acts, marksMet, planned, reports, reportedAs, InTurn, NamesFew, Suits, EndRight}
 use Rattle.promise.specs.Demand.{Demand}
 use Rattle.promise.proofs.Tests.{clash}
 use Rattle.promise.proofs.Legs.{number-first}

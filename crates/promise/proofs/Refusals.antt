@@ -14,7 +14,8 @@ use Rattle.listing.specs.Orders.{Order}
 use Rattle.listing.proofs.Numbers.{either, test}
 use Rattle.promise.specs.Plan.{marks}
 use Rattle.promise.specs.Campaign.{
-  State, Call, request, report, wordOf, isError, Answer, theEnd, taken, refusal, Setting, here, todo, fit, next, offer, answer,
+  State, Call, request, report, wordOf, isError, Answer, movement, mark, theEnd, taken, refusal, Setting, here, rankOf, numberOf, todo, fit, next, offer,
+  answer,
 }
 use Rattle.promise.specs.Fitness.{Fit, Why, unfit, kindAbove, noMark, markStands, errorsFull, noRoom}
 use Rattle.promise.proofs.Tests.{clash, fails}
@@ -23,6 +24,37 @@ use Rattle.promise.proofs.Fitness.{tells-fit}
 
 refusal-eq : {j k : ℕ} → refusal j ≡ refusal k → j ≡ k
 refusal-eq e = cc
+
+-- ---- what is offered
+
+-- what a request gives where it is not refused: the end if it is shown, else the mark if nothing is to come before it, else the first order still to come
+pub data Offered (C : Setting) (s : State) : Answer → Type 0 where
+  end-next : s .ended ≡ true → Offered C s (theEnd (marks (C .legs)))
+  mark-next : s .ended ≡ false → todo C s ≡ some [] → Offered C s (mark (numberOf C s) (rankOf C s))
+  order-next : (o : Order) (os : List Order) → s .ended ≡ false → todo C s ≡ some (o ∷ os) → Offered C s (movement o)
+
+pub offered-so : (C : Setting) (s : State) → Fit C s → s .standing ≡ false → Offered C s (offer C s)
+unfolding offer
+offered-so C s f st = by-end (s .ended) refl
+  where
+    by-way : (r : Option (List Order)) (vs : List Order) → todo C s ≡ r → r ≡ some vs → s .ended ≡ false → Offered C s (next C s r)
+    by-way none vs w e en = no-none refl e
+    by-way (some []) vs w e en = mark-next en w
+    by-way (some (o ∷ os)) vs w e en = order-next o os en w
+
+    by-end : (b : Bool) → s .ended ≡ b → Offered C s (cond b (theEnd (marks (C .legs))) (next C s (todo C s)))
+    by-end true en = end-next en
+    by-end false en =
+        let w : (vs : List Order) × (todo C s ≡ some vs) = way-found (C .family) (here C s) (s .step) (s .panel) (f .between st en) in
+        by-way (todo C s) (w .0) refl (w .1) en
+
+-- it is no refusal
+pub no-refusal : {C : Setting} {s : State} {a : Answer} → Offered C s a → (k : ℕ) → a ≢ refusal k
+no-refusal (end-next en) k e = let z : _≡_ {A = ℕ} 0 1 = cc in omega arith
+no-refusal (mark-next en w) k e = let z : _≡_ {A = ℕ} 0 1 = cc in omega arith
+no-refusal (order-next o os en w) k e = let z : _≡_ {A = ℕ} 0 1 = cc in omega arith
+
+-- ---- what is answered
 
 -- the answer to a call on a fit state: a refusal with its reason, what is offered, or that the report is taken
 pub data Answered (C : Setting) (s : State) : Call → Answer → Type 0 where
@@ -116,27 +148,11 @@ module _ (C : Setting) (s : State) where
   unfolding at-errors at-mark at-kind
   ran-taken f st = report-fit 0 f ∙ ap (at-mark 0) st
 
-  -- what is offered in a fit state is no refusal
-  pub offered : Fit C s → s .standing ≡ false → (k : ℕ) → offer C s ≡ refusal k → ⊥
-  unfolding offer
-  offered f st k = by-end (s .ended) refl
-    where
-      by-way : (r : Option (List Order)) (vs : List Order) → r ≡ some vs → next C s r ≡ refusal k → ⊥
-      by-way none vs e h = no-none refl e
-      by-way (some []) vs e h = let z : _≡_ {A = ℕ} 0 1 = cc in omega arith
-      by-way (some (o ∷ os)) vs e h = let z : _≡_ {A = ℕ} 0 1 = cc in omega arith
-
-      by-end : (b : Bool) → s .ended ≡ b → cond b (theEnd (marks (C .legs))) (next C s (todo C s)) ≡ refusal k → ⊥
-      by-end true en h = let z : _≡_ {A = ℕ} 0 1 = cc in omega arith
-      by-end false en h =
-          let w : (vs : List Order) × (todo C s ≡ some vs) = way-found (C .family) (here C s) (s .step) (s .panel) (f .between st en) in
-          by-way (todo C s) (w .0) (w .1) h
-
   -- ---- a call is refused with a number exactly if the paper gives the reason
 
   why-answered : {c : Call} {a : Answer} → Fit C s → Answered C s c a → (k : ℕ) → a ≡ refusal k → Why C s c k
   why-answered {c} f (refused w) k e = subst (Why C s c) (refusal-eq e) w
-  why-answered f (given st) k e = absurd (offered f st k e)
+  why-answered f (given st) k e = absurd (no-refusal (offered-so C s f st) k e)
   why-answered f (heeded st h b) k e = absurd (let z : _≡_ {A = ℕ} 0 1 = cc in omega arith)
 
   why-refused : (c : Call) (k : ℕ) → answer C c s ≡ refusal k → Why C s c k

@@ -4,7 +4,7 @@ use mathlib.Core.Path.{_≡_, refl, sym, ap, _∙_, subst}
 use mathlib.Core.Logic.{_≢_}
 use mathlib.Core.Bool.{Bool, true, false, cond}
 use mathlib.Core.List.{List, [], _∷_}
-use mathlib.Core.Option.{Option, none, some}
+use mathlib.Core.Option.{some}
 use Prim.Native.Nat.{ℕ, zero, suc, _+_, _≤_, _<_}
 use native.Mathlib.Omega.{arith}
 use lib.Dec.{ltb}
@@ -15,15 +15,15 @@ use Rattle.listing.specs.Orders.{Order, carry}
 use Rattle.listing.proofs.Numbers.{either, test}
 use Rattle.promise.specs.Plan.{Lawful, Accepted, marks, number}
 use Rattle.promise.specs.Campaign.{
-  State, withPanel, withMark, placed, Call, request, report, Word, ran, error, gaveUp, wordOf, isRan, isError, isGaveUp, isClosing, tick, tallied, Answer, movement,
-  mark, theEnd, taken, refusal, Setting, first, toCome, here, rankOf, numberOf, wanted, todo, next, offer, answer, closed, heard, after,
+  State, withPanel, withMark, placed, Call, request, report, Word, ran, error, gaveUp, wordOf, isRan, isError, isGaveUp, isClosing, tick, tallied, Answer,
+  movement, mark, theEnd, taken, refusal, Setting, first, toCome, here, rankOf, numberOf, wanted, todo, answer, closed, heard, after,
 }
 use Rattle.promise.specs.Fitness.{OnTheWay, Fit}
 use Rattle.promise.specs.Bench.{Turn, run, leaves, Each}
 use Rattle.promise.proofs.Tests.{clash}
 use Rattle.promise.proofs.Legs.{number-first, number-step, number-leg, number-last}
-use Rattle.promise.proofs.Ways.{Coming, Listed, no-none, coming, way-found, found-way, way-step, way-over, way-done, way-on}
-use Rattle.promise.proofs.Refusals.{Answered, refused, given, heeded, answered-so, no-fifteen}
+use Rattle.promise.proofs.Ways.{Coming, Listed, coming, found-way, way-step, way-over, way-done, way-on}
+use Rattle.promise.proofs.Refusals.{Offered, end-next, mark-next, order-next, offered-so, Answered, refused, given, heeded, answered-so, no-fifteen}
 
 -- ---- the relation
 
@@ -67,20 +67,11 @@ abbrev Doing : Setting → State → Call → Answer → Type 0
 Doing C s c a = Does C s c a (after C c a s)
 
 module _ (C : Setting) (s : State) (f : Fit C s) where
-  offers : (room : ℕ) → s .standing ≡ false → Doing C s (request room) (offer C s)
-  unfolding offer after
-  offers room st = by-end (s .ended) refl
-    where
-      by-way : (r : Option (List Order)) (vs : List Order) → todo C s ≡ r → r ≡ some vs → s .ended ≡ false → Doing C s (request room) (next C s r)
-      by-way none vs w e en = no-none refl e
-      by-way (some []) vs w e en = hands-out st en w
-      by-way (some (o ∷ os)) vs w e en = moves-on o os st en w
-
-      by-end : (b : Bool) → s .ended ≡ b → Doing C s (request room) (cond b (theEnd (marks (C .legs))) (next C s (todo C s)))
-      by-end true en = ends en
-      by-end false en =
-          let w : (vs : List Order) × (todo C s ≡ some vs) = way-found (C .family) (here C s) (s .step) (s .panel) (f .between st en) in
-          by-way (todo C s) (w .0) refl (w .1) en
+  offers : {a : Answer} (room : ℕ) → s .standing ≡ false → Offered C s a → Doing C s (request room) a
+  unfolding after
+  offers room st (end-next en) = ends en
+  offers room st (mark-next en w) = hands-out st en w
+  offers room st (order-next o os en w) = moves-on o os st en w
 
   takes : (kind : ℕ) → s .standing ≡ true → (kind ≡ 1 → s .errors < C .limit) → Doing C s (report kind) taken
   unfolding after heard
@@ -91,7 +82,7 @@ module _ (C : Setting) (s : State) (f : Fit C s) where
   does-answered : {c : Call} {a : Answer} → Answered C s c a → Doing C s c a
   unfolding after
   does-answered (refused {k = k} w) = refuses k (no-fifteen C s f w)
-  does-answered (given {room = room} st) = offers room st
+  does-answered (given {room = room} st) = offers room st (offered-so C s f st)
   does-answered (heeded {kind = kind} st h below) = takes kind st below
 
   pub does-so : (c : Call) → Doing C s c (answer C c s)

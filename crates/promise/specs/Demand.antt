@@ -13,8 +13,8 @@ use Rattle.promise.specs.Plan.{Family, marks}
 use Rattle.promise.specs.Campaign.{State, isRan, isError, isGaveUp, isClosing, movement, refusal, Setting, first}
 use Rattle.promise.specs.Fitness.{Fit, Why}
 use Rattle.promise.specs.Bench.{
-  Turn, leaves, Each, Act, acts, bench, Meets, marksMet, panelsMet, planned, Begins, Again, stands, closedLast, reports, reportedAs, Rising, InTurn, Spaced,
-  Led, NamesFew, DiffersFew, Suits, EndRight,
+  Turn, leaves, Each, Act, acts, bench, Meets, marksMet, panelsMet, planned, Begins, Again, stands, closedLast, reports, reportedAs, Rising, InTurn,
+  Spaced, Led, NamesFew, DiffersFew, Suits, EndRight,
 }
 
 -- 'Take any accepted plan and any calls, each on the state the last one left, and carry out the orders on a panel that starts at home.' Of the turns ts of
