@@ -1,6 +1,6 @@
 -- Every port stands on a permutation: as many jacks as ports, and no port at two jacks, leave no port out. The holder of a port is the jack at which it stands.
 -- Assumes nothing.
-use mathlib.Core.Path.{_≡_, refl, _∙_}
+use mathlib.Core.Path.{_≡_, refl, sym, _∙_}
 use mathlib.Core.Logic.{_≢_}
 use mathlib.Core.List.{List, [], _∷_}
 use Prim.Native.Nat.{ℕ, zero, suc, _≤_}
@@ -14,52 +14,36 @@ use Rattle.promise.specs.Carriage.{holder}
 
 -- ---- a map of 1..n into 1..n that sends no two numbers to one meets each of them
 
--- such a map without its last number: where it had the last value it gets what the last number had
-without : ℕ → (ℕ → ℕ) → ℕ → ℕ
-without n f j = trade (suc n) (f (suc n)) (f j)
+-- b in the place of a: values other than b stay apart
+trade-apart : (a b v w : ℕ) → v ≢ b → w ≢ b → trade a b v ≡ trade a b w → v ≡ w
+trade-apart a b v w nv nw e =
+    either (trade-cases a b v)
+    (λ c. either (trade-cases a b w) (λ d. omega arith) (λ d. omega arith))
+    (λ c. either (trade-cases a b w) (λ d. omega arith) (λ d. omega arith))
 
-module _ (n : ℕ) (f : ℕ → ℕ) (range : (j : ℕ) → Among (suc n) j → Among (suc n) (f j))
-    (apart : (j k : ℕ) → Among (suc n) j → Among (suc n) k → f j ≡ f k → j ≡ k) where
-  not-last : (j : ℕ) → Among n j → f j ≢ f (suc n)
-  not-last j a e = let z : j ≡ suc n = apart j (suc n) (omega arith) (omega arith) e in omega arith
+-- and in the place of the last number they come below it
+trade-below : (n b v : ℕ) → Among (suc n) b → Among (suc n) v → v ≢ b → Among n (trade (suc n) b v)
+trade-below n b v hb hv nv = either (trade-cases (suc n) b v) (λ c. omega arith) (λ c. omega arith)
 
-  without-range : (j : ℕ) → Among n j → Among n (without n f j)
-  unfolding without
-  without-range j a =
-      let here : Among (suc n) (f j) = range j (omega arith) in
-      let last : Among (suc n) (f (suc n)) = range (suc n) (omega arith) in
-      let other : f j ≢ f (suc n) = not-last j a in
-      either (trade-cases (suc n) (f (suc n)) (f j)) (λ c. omega arith) (λ c. omega arith)
-
-  without-apart : (j k : ℕ) → Among n j → Among n k → without n f j ≡ without n f k → j ≡ k
-  unfolding without
-  without-apart j k a b e =
-      let j-other : f j ≢ f (suc n) = not-last j a in
-      let k-other : f k ≢ f (suc n) = not-last k b in
-      apart j k (omega arith) (omega arith)
-      (either (trade-cases (suc n) (f (suc n)) (f j))
-      (λ c. either (trade-cases (suc n) (f (suc n)) (f k)) (λ d. omega arith) (λ d. omega arith))
-      (λ c. either (trade-cases (suc n) (f (suc n)) (f k)) (λ d. omega arith) (λ d. omega arith)))
-
-  -- what is met without the last number is met with it
-  met-with : ((y : ℕ) → Among n y → (j : ℕ) × Among n j × (without n f j ≡ y)) → (x : ℕ) → Among (suc n) x → (j : ℕ) × Among (suc n) j × (f j ≡ x)
-  unfolding without
-  met-with met x h =
-      let last : Among (suc n) (f (suc n)) = range (suc n) (omega arith) in
-      either (same? (f (suc n)) x) (λ e. (suc n, omega arith, e)) (λ ne.
-      -- the value to look for: x, or in place of the last value what the last number has
-      let m : (j : ℕ) × Among n j × (without n f j ≡ trade (suc n) (f (suc n)) x) =
-      met (trade (suc n) (f (suc n)) x) (either (trade-cases (suc n) (f (suc n)) x) (λ c. omega arith) (λ c. omega arith)) in
-      let other : f (m .0) ≢ f (suc n) = not-last (m .0) (m .1) in
-      (m .0, omega (arith, m .1), either (trade-cases (suc n) (f (suc n)) (f (m .0)))
-      (λ c. either (trade-cases (suc n) (f (suc n)) x) (λ d. omega arith) (λ d. omega (arith, m .2)))
-      (λ c. either (trade-cases (suc n) (f (suc n)) x) (λ d. omega (arith, m .2)) (λ d. omega (arith, m .2)))))
-
+-- the map without its last number, which has b: where it had the last value it gets b
 onto : (n : ℕ) (f : ℕ → ℕ) → ((j : ℕ) → Among n j → Among n (f j)) → ((j k : ℕ) → Among n j → Among n k → f j ≡ f k → j ≡ k)
     → (x : ℕ) → Among n x → (j : ℕ) × Among n j × (f j ≡ x)
 onto zero f range apart x h = absurd (omega arith)
 onto (suc n) f range apart x h =
-    met-with n f range apart (onto n (without n f) (without-range n f range apart) (without-apart n f range apart)) x h
+    either (same? x (f (suc n))) (λ e. (suc n, omega arith, sym e)) (λ ne.
+    elsewhere ne (onto n (λ j. trade (suc n) (f (suc n)) (f j))
+    (λ j a. trade-below n (f (suc n)) (f j) last (range j (omega arith)) (not-last j a))
+    (λ j k a b e. apart j k (omega arith) (omega arith) (trade-apart (suc n) (f (suc n)) (f j) (f k) (not-last j a) (not-last k b) e))
+    (trade (suc n) (f (suc n)) x) (trade-below n (f (suc n)) x last h ne)))
+  where
+    last : Among (suc n) (f (suc n))
+    last = range (suc n) (omega arith)
+
+    not-last : (j : ℕ) → Among n j → f j ≢ f (suc n)
+    not-last j a e = let z : j ≡ suc n = apart j (suc n) (omega arith) (omega arith) e in omega arith
+
+    elsewhere : x ≢ f (suc n) → (j : ℕ) × Among n j × (trade (suc n) (f (suc n)) (f j) ≡ trade (suc n) (f (suc n)) x) → (j : ℕ) × Among (suc n) j × (f j ≡ x)
+    elsewhere ne m = (m .0, omega (arith, m .1), trade-apart (suc n) (f (suc n)) (f (m .0)) x (not-last (m .0) (m .1)) ne (m .2))
 
 -- ---- the holder
 

@@ -24,7 +24,7 @@ use Rattle.promise.proofs.Legs.{number-below, number-first, number-step
 use Rattle.promise.proofs.Ways.{way-found}
 use Rattle.promise.proofs.Steps.{
   Closes, to-step, to-leg, to-end, moves-on, hands-out, ends, closes, errs, refuses, does-so, not-ended, closing-error, coming-here, over-here, step-on,
-  fit-first, fit-after, History, stop, then, fit-last, history,
+  fit-first, fit-after, History, stop, then, fit-start, fit-last, history,
 }
 use Rattle.promise.proofs.Refusals.{offered-so, no-refusal, served, ran-taken}
 use Rattle.promise.proofs.Tallies.{error-counts, counted-so}
@@ -137,7 +137,7 @@ module _ (C : Setting) (lawful : Lawful (C .family)) (accepted : Accepted (C .fa
   worked {s} (then f (hands-out st en w) h) = omega (arith, worked h, work-marked s st en w)
   worked (then f (ends en) h) = omega (arith, worked h)
   worked {s} (then {t = t} f (closes {kind = kind} st cl x) h) =
-      omega (arith, worked h, work-closing s t kind f st x (fit-after C lawful accepted f (closes {kind = kind} st cl x)), ap tick (closing-error (wordOf kind) cl))
+      omega (arith, worked h, work-closing s t kind f st x (fit-start h), ap tick (closing-error (wordOf kind) cl))
   worked {s} (then f (errs st lt) h) = omega (arith, worked h, work-erred s f st)
   worked (then f (refuses k n) h) = omega (arith, worked h)
 
