@@ -6,7 +6,7 @@ use mathlib.Core.Logic.{_≢_, _↔_}
 use mathlib.Core.List.{List, [], _∷_, head-eq-of-cons-eq, tail-eq-of-cons-eq}
 use Prim.Native.Nat.{ℕ, zero, suc, _+_, _-_, _≤_, _<_}
 use native.Mathlib.Omega.{arith}
-use lib.ListN.{length}
+use lib.ListN.{length, take, drop, length-drop}
 use borrow.Author.Tests.{eq-eqb, ne-eqb}
 use Rattle.listing.specs.Numbers.{Among}
 use Rattle.listing.specs.Pattern.{entry, Permutation}
@@ -15,6 +15,7 @@ use Rattle.listing.proofs.Numbers.{either, below?, same?}
 use Rattle.listing.proofs.Panels.{same-entries, entry-carry}
 use Rattle.listing.proofs.Sources.{by-swap, carry-permutation}
 use Rattle.promise.specs.Carriage.{holder, fetch, carriageFrom, carriage}
+use Rattle.promise.specs.Plan.{Straight}
 use Rattle.promise.proofs.Onto.{holds}
 
 -- the panel p is on its way to t: both are permutations of 1..n, they agree at the jacks before j, and k jacks are left from j on
@@ -184,3 +185,23 @@ carriage-still p = still-from (length p) 1 p
 pub carriage-empty : (n : ℕ) (p t : List ℕ) → Permutation n p → Permutation n t → (carriage p t ≡ []) ↔ (p ≡ t)
 unfolding carryAll
 carriage-empty n p t P T = (λ e. rw e at (carriage-reaches n p t P T), λ e. rw e (carriage-still t))
+
+-- ---- its way
+
+-- after any number of its orders the others are the carriage from the panel there
+pub carriage-left : (n : ℕ) (os : List Order) (p t : List ℕ) → Permutation n p → Permutation n t → carriage p t ≡ os
+    → (i : ℕ) → i ≤ length os → carriage (carryAll (take i os) p) t ≡ drop i os
+unfolding carryAll
+carriage-left n os p t P T h zero b = h
+carriage-left n [] p t P T h (suc i) b = absurd (omega arith)
+carriage-left n (o ∷ os) p t P T h (suc i) b =
+    let f : First n p t o os = carriage-first n p t P T o os h in
+    carriage-left n os (carry o p) t (f .permutation) T (f .afterwards) i (omega arith)
+
+-- so it passes no panel twice
+pub carriage-straight : (n : ℕ) (p t : List ℕ) → Permutation n p → Permutation n t → Straight p (carriage p t)
+carriage-straight n p t P T i j hi hj e =
+    let os : List Order = carriage p t in
+    let left : drop i os ≡ drop j os =
+    sym (carriage-left n os p t P T refl i hi) ∙ ap (λ q. carriage q t) e ∙ carriage-left n os p t P T refl j hj in
+    omega (arith, ap length left, length-drop i os, length-drop j os)
