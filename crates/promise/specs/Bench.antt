@@ -65,6 +65,7 @@ inFront (request room) taken xs = xs
 inFront (report kind) taken xs = says (wordOf kind) ∷ xs
 inFront c (refusal k) xs = xs
 
+-- what happens on the bench in the turns
 unfoldable pub acts : List Turn → List Act
 acts [] = []
 acts (t ∷ ts) = inFront (t .call) (t .answered) (acts ts)

@@ -109,12 +109,12 @@ pub data Answer : Type 0 where
 
 -- ---- the orders still to come
 
--- What is left of the orders os, which lead on from p, when the panel is q: those after the last panel on their way that is q. None if q is not on their way
+-- what is left of the orders os, which lead on from p, when the panel is q: those after the last panel on their way that is q. None if q is not on their way
 unfoldable pub rest : List ℕ → List Order → List ℕ → Option (List Order)
 rest p [] q = cond (same p q) (some []) none
 rest p (o ∷ os) q = orElse (rest (carry o p) os q) (cond (same p q) (some (o ∷ os)) none)
 
--- The orders still to come before the mark at step k of leg l, when the panel is q. 'Before a leg's first mark the panel is carried there'; 'inside a leg, the
+-- the orders still to come before the mark at step k of leg l, when the panel is q. 'Before a leg's first mark the panel is carried there'; 'inside a leg, the
 -- orders are the one move to the neighbour', of which those already carried out are gone. None if q is not a panel that may stand there
 unfoldable pub toCome : Family → Leg → ℕ → List ℕ → Option (List Order)
 toCome F l zero q = cond (isPermutation (F .ports) q) (some (carriage q (F .pattern (rankAt F l 0)))) none
@@ -166,7 +166,8 @@ module _ (C : Setting) where
       && implies (s .standing || s .ended) (same (s .panel) (wanted s))
       && implies (not (s .standing || s .ended)) (found (todo s))
 
-  -- what a request gives where it is not refused: the end if it is shown, else the next order still to come, else the mark
+  -- what a request gives where it is not refused: the end if it is shown, else the next order still to come, else the mark. (In a fit state what is to come
+  -- is always found: offered-so of proofs/Refusals.antt.)
   abbrev pub next : State → Option (List Order) → Answer
   next s none = refusal 15
   next s (some []) = mark (numberOf s) (rankOf s)

@@ -32,7 +32,7 @@ Straight p os = (i j : ℕ) → i ≤ length os → j ≤ length os → carryAll
 
 -- ---- families
 
--- A listed family of patterns: its ports, how many patterns it lists, the panel's home, the pattern of each rank, the neighbour of a rank (backward or not),
+-- a listed family of patterns: its ports, how many patterns it lists, the panel's home, the pattern of each rank, the neighbour of a rank (backward or not),
 -- the orders that lead there, and the most cords that they name
 pub record Family : Type 0 where
   pub ports : ℕ
