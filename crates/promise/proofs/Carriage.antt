@@ -71,7 +71,7 @@ module _ (n j k : ℕ) (p t : List ℕ) (R : Ready n j (suc k) p t) (wrong : ent
     to = R .to;
     jack = omega arith;
     left = omega (arith, R .left);
-    right = λ i a b. 
+    right = λ i a b.
         entry-carry (fetch p t j) p i (omega (arith, R .from .long, R .left))
         ∙ by-swap (λ x. entry p x ≡ entry t i) j (holder p (entry t j)) i (λ e. held .1 ∙ ap (entry t) (sym e)) (λ x e. absurd (omega (arith, later)))
         (λ x y. R .right i a (omega arith));

@@ -16,9 +16,8 @@ use Rattle.listing.specs.Neighbours.{nextRank, previousRank, inside, onFrom, ne
 use Rattle.promise.specs.Tests.{all, implies, isPermutation, same}
 use Rattle.promise.specs.Carriage.{holder, carriageFrom, carriage}
 use Rattle.promise.specs.Plan.{marks, number}
-use Rattle.promise.specs.Campaign.{
-  Call, request, report, Answer, movement, mark, theEnd, taken, refusal, Setting, rest, toCome, first, fit, offer, answer, closed, heard, after,
-}
+use Rattle.promise.specs.Campaign.{Call, request, report, Answer, movement, mark, theEnd, taken, refusal, Setting}
+use Rattle.promise.specs.Campaign.{rest, toCome, first, fit, offer, answer, closed, heard, after}
 use Rattle.promise.specs.Bench.{Turn, run}
 use Rattle.promise.specs.Progress.{dueCall, promptly}
 use Rattle.promise.specs.Derangements.{derangements, onPorts}

@@ -35,7 +35,7 @@ pub tells-fit : (C : Setting) (s : State) → Tells (fit C s) (Fit C s)
 unfolding fit
 tells-fit C s =
     let last : Tells (not (s .standing) && eqb (suc (s .leg)) (length (C .legs)) && eqb (s .step) (here C s .run))
-        (((s .standing ≡ false) × (suc (s .leg) ≡ length (C .legs))) × (s .step ≡ here C s .run)) =
+    (((s .standing ≡ false) × (suc (s .leg) ≡ length (C .legs))) × (s .step ≡ here C s .run)) =
     tells-and _ _ (tells-and _ _ (tells-not (s .standing)) (tells-eqb (suc (s .leg)) (length (C .legs)))) (tells-eqb (s .step) (here C s .run)) in
     let places = tells-and _ _ (tells-ltb (s .leg) (length (C .legs))) (tells-leb (s .step) (here C s .run)) in
     let counts = tells-and _ _ (tells-and _ _ places (tells-leb (s .errors) (C .limit))) (tells-eqb (s .covered + s .opened) (closedMarks C s)) in
@@ -56,7 +56,11 @@ tells-fit C s =
             between = λ st en. t .1 (neither-or (s .standing) (s .ended) st en);
           },
       λ F.
-          all-seven .1 ((((((F .leg, F .step), F .errors), F .counts), λ en. ((F .end en .0, F .end en .1), F .end en .2)),
-          λ e. either (or-cases (s .standing) (s .ended) e) (F .atMark) (F .atEnd)),
-          λ e. F .between (or-neither (s .standing) (s .ended) e .0) (or-neither (s .standing) (s .ended) e .1)),
+          all-seven .1 (
+            (
+              ((((F .leg, F .step), F .errors), F .counts), λ en. ((F .end en .0, F .end en .1), F .end en .2)),
+              λ e. either (or-cases (s .standing) (s .ended) e) (F .atMark) (F .atEnd),
+            ),
+            λ e. F .between (or-neither (s .standing) (s .ended) e .0) (or-neither (s .standing) (s .ended) e .1),
+          ),
     )

@@ -16,9 +16,8 @@ use Rattle.promise.specs.Bench.{Turn, Act, acts, leadTo, Led}
 use Rattle.promise.proofs.Tests.{clash}
 use Rattle.promise.proofs.Legs.{stepOf-number, legOf-number}
 use Rattle.promise.proofs.Ways.{some-eq, way-first, way-next}
-use Rattle.promise.proofs.Steps.{
-  Closes, to-step, to-leg, to-end, moves-on, hands-out, ends, closes, errs, refuses, over-here, step-on, History, stop, then, fit-start,
-}
+use Rattle.promise.proofs.Steps.{Closes, to-step, to-leg, to-end, moves-on, hands-out, ends, closes}
+use Rattle.promise.proofs.Steps.{errs, refuses, over-here, step-on, History, stop, then, fit-start}
 use Rattle.promise.proofs.Marks.{closed-so}
 
 -- the orders os since the mark before, when the panel there was last: none while a mark stands or is to come again; else with those still to come they are the

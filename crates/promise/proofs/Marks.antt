@@ -16,9 +16,8 @@ use Rattle.promise.specs.Bench.{Turn, leaves, acts, bench, Meets, isMark
 use Rattle.promise.proofs.Tests.{clash, tells-eqb, tells-and}
 use Rattle.promise.proofs.Legs.{number-below, number-step, number-leg, number-last, length-ranks, ranks-at}
 use Rattle.promise.proofs.Ways.{way-done}
-use Rattle.promise.proofs.Steps.{
-  Closes, to-step, to-leg, to-end, moves-on, hands-out, ends, closes, errs, refuses, not-ended, listed-here, over-here, History, stop, then,
-}
+use Rattle.promise.proofs.Steps.{Closes, to-step, to-leg, to-end, moves-on, hands-out, ends, closes}
+use Rattle.promise.proofs.Steps.{errs, refuses, not-ended, listed-here, over-here, History, stop, then}
 
 -- closing a mark leaves the panel as it is and as many marks closed as were counted, and no mark stands
 pub record Closed (s t : State) : Type 0 where

@@ -12,20 +12,17 @@ use lib.ListN.{length}
 use Rattle.listing.specs.Orders.{Order, carry}
 use Rattle.listing.proofs.Numbers.{either, test}
 use Rattle.promise.specs.Plan.{Lawful, Accepted, marks, number}
-use Rattle.promise.specs.Campaign.{
-  State, withPanel, withMark, Call, request, report, wordOf, isError, error, tick, tallied, Answer, movement, mark, theEnd, taken, refusal, Setting, first,
-  here, numberOf, todo, offer, answer, after,
-}
+use Rattle.promise.specs.Campaign.{State, withPanel, withMark, Call, request, report, wordOf, isError, error, tick, tallied, Answer, movement}
+use Rattle.promise.specs.Campaign.{mark, theEnd, taken, refusal, Setting, first, here, numberOf, todo, offer, answer, after}
 use Rattle.promise.specs.Fitness.{Fit}
 use Rattle.promise.specs.Bench.{Turn, run, leaves, turns, leftBy, Act, inFront, acts, reports}
 use Rattle.promise.specs.Progress.{perMark, callsToEnd, howMany, work, broughtOn, Unrefused, dueCall, promptly}
 use Rattle.promise.proofs.Tests.{clash}
 use Rattle.promise.proofs.Legs.{number-below, number-first, number-step, number-leg}
 use Rattle.promise.proofs.Ways.{way-found}
-use Rattle.promise.proofs.Steps.{
-  Closes, to-step, to-leg, to-end, moves-on, hands-out, ends, closes, errs, refuses, does-so, not-ended, closing-error, coming-here, over-here, step-on,
-  fit-first, fit-after, History, stop, then, fit-start, fit-last, history,
-}
+use Rattle.promise.proofs.Steps.{Closes, to-step, to-leg, to-end, moves-on, hands-out, ends, closes}
+use Rattle.promise.proofs.Steps.{errs, refuses, does-so, not-ended, closing-error, coming-here, over-here, step-on}
+use Rattle.promise.proofs.Steps.{fit-first, fit-after, History, stop, then, fit-start, fit-last, history}
 use Rattle.promise.proofs.Refusals.{offered-so, no-refusal, served, ran-taken}
 use Rattle.promise.proofs.Tallies.{error-counts, counted-so}
 

@@ -11,23 +11,19 @@ use lib.ListN.{drop}
 use Rattle.listing.specs.Orders.{Order, InShape}
 use Rattle.listing.proofs.Moves.{differing-same}
 use Rattle.promise.specs.Plan.{Lawful, Accepted, marks}
-use Rattle.promise.specs.Campaign.{
-  State, Call, request, isRan, isError, isGaveUp, isClosing, Answer, movement, mark, theEnd, taken, refusal, Setting, first, numberOf, todo, next, offer,
-  answer, after,
-}
+use Rattle.promise.specs.Campaign.{State, Call, request, isRan, isError, isGaveUp, isClosing, Answer, movement, mark, theEnd}
+use Rattle.promise.specs.Campaign.{taken, refusal, Setting, first, numberOf, todo, next, offer, answer, after}
 use Rattle.promise.specs.Fitness.{Fit, Why}
 use Rattle.promise.specs.Bench.{Turn, turns, leftBy, Each, Act, acts, marksMet, planned, reports, reportedAs, InTurn, NamesFew, Suits, EndRight}
 use Rattle.promise.specs.Demand.{Demand}
 use Rattle.promise.proofs.Tests.{clash}
 use Rattle.promise.proofs.Legs.{number-first}
-use Rattle.promise.proofs.Steps.{
-  Does, moves-on, hands-out, ends, closes, errs, refuses, does-so, coming-here, fit-first, History, fit-last, history, each-turn,
-}
+use Rattle.promise.proofs.Steps.{Does, moves-on, hands-out, ends, closes, errs, refuses}
+use Rattle.promise.proofs.Steps.{does-so, coming-here, fit-first, History, fit-last, history, each-turn}
 use Rattle.promise.proofs.Refusals.{served, tells-refusal}
 use Rattle.promise.proofs.Marks.{newest, newMark, list-over, meets-so, carried-so, between-so, again-so}
-use Rattle.promise.proofs.Tallies.{
-  covered-counts, open-counts, error-counts, counted-so, stands-so, ended-so, marks-so, in-turn-so, rising-so, closing-so, finished-so,
-}
+use Rattle.promise.proofs.Tallies.{covered-counts, open-counts, error-counts, counted-so, stands-so, ended-so}
+use Rattle.promise.proofs.Tallies.{marks-so, in-turn-so, rising-so, closing-so, finished-so}
 use Rattle.promise.proofs.Spaces.{spaced-so, names-so, differs-so}
 use Rattle.promise.proofs.Leads.{led-so}
 

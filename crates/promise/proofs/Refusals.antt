@@ -13,10 +13,8 @@ use borrow.Author.Tests.{ltb-true, ltb-false, leb-true, leb-false, lt-ltb, le-lt
 use Rattle.listing.specs.Orders.{Order}
 use Rattle.listing.proofs.Numbers.{either, test}
 use Rattle.promise.specs.Plan.{marks}
-use Rattle.promise.specs.Campaign.{
-  State, Call, request, report, wordOf, isError, Answer, movement, mark, theEnd, taken, refusal, Setting, here, rankOf, numberOf, todo, fit, next, offer,
-  answer,
-}
+use Rattle.promise.specs.Campaign.{State, Call, request, report, wordOf, isError, Answer, movement, mark, theEnd, taken}
+use Rattle.promise.specs.Campaign.{refusal, Setting, here, rankOf, numberOf, todo, fit, next, offer, answer}
 use Rattle.promise.specs.Fitness.{Fit, Why, unfit, kindAbove, noMark, markStands, errorsFull, noRoom}
 use Rattle.promise.proofs.Tests.{clash, fails}
 use Rattle.promise.proofs.Ways.{no-none, way-found}

@@ -14,10 +14,9 @@ use Rattle.listing.specs.Pattern.{Permutation}
 use Rattle.listing.specs.Orders.{Order, carry}
 use Rattle.listing.proofs.Numbers.{either, test}
 use Rattle.promise.specs.Plan.{Lawful, Accepted, marks, number}
-use Rattle.promise.specs.Campaign.{
-  State, withPanel, withMark, placed, Call, request, report, Word, ran, error, gaveUp, wordOf, isRan, isError, isGaveUp, isClosing, tick, tallied, Answer,
-  movement, mark, theEnd, taken, refusal, Setting, first, toCome, here, rankOf, numberOf, wanted, todo, answer, closed, heard, after,
-}
+use Rattle.promise.specs.Campaign.{State, withPanel, withMark, placed, Call, request, report, Word, ran, error, gaveUp, wordOf}
+use Rattle.promise.specs.Campaign.{isRan, isError, isGaveUp, isClosing, tick, tallied, Answer, movement, mark, theEnd, taken, refusal}
+use Rattle.promise.specs.Campaign.{Setting, first, toCome, here, rankOf, numberOf, wanted, todo, answer, closed, heard, after}
 use Rattle.promise.specs.Fitness.{OnTheWay, Fit}
 use Rattle.promise.specs.Bench.{Turn, run, leaves, Each}
 use Rattle.promise.proofs.Tests.{clash}

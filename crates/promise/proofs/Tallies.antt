@@ -12,16 +12,14 @@ use lib.ListN.{length}
 use Rattle.listing.specs.Orders.{carry}
 use Rattle.listing.proofs.Numbers.{either, test}
 use Rattle.promise.specs.Plan.{marks}
-use Rattle.promise.specs.Campaign.{
-  State, withPanel, withMark, placed, Word, ran, error, gaveUp, wordOf, isRan, isError, isGaveUp, isClosing, tick, tallied, Setting, numberOf,
-}
+use Rattle.promise.specs.Campaign.{State, withPanel, withMark, placed, Word, ran, error, gaveUp, wordOf}
+use Rattle.promise.specs.Campaign.{isRan, isError, isGaveUp, isClosing, tick, tallied, Setting, numberOf}
 use Rattle.promise.specs.Fitness.{Fit}
 use Rattle.promise.specs.Bench.{Turn, leaves, Act, moves, meets, says, acts, stands, closedLast, reports, reportedAs, Rising, InTurn}
 use Rattle.promise.proofs.Tests.{clash}
 use Rattle.promise.proofs.Legs.{number-below}
-use Rattle.promise.proofs.Steps.{
-  Closes, to-step, to-leg, to-end, moves-on, hands-out, ends, closes, errs, refuses, not-ended, due, due-standing, closing-sum, History, stop, then,
-}
+use Rattle.promise.proofs.Steps.{Closes, to-step, to-leg, to-end, moves-on, hands-out, ends, closes, errs}
+use Rattle.promise.proofs.Steps.{refuses, not-ended, due, due-standing, closing-sum, History, stop, then}
 use Rattle.promise.proofs.Marks.{closed-so}
 
 -- ---- counts of reports

@@ -12,9 +12,8 @@ use lib.Seq.{getD-append-add}
 use Rattle.listing.specs.Orders.{Order}
 use Rattle.promise.specs.Plan.{Family, legAt, ranks, marks, number}
 use Rattle.promise.specs.Campaign.{State, Word, ran, error, isRan, isClosing, tick, theEnd, Setting, first}
-use Rattle.promise.specs.Bench.{
-  Turn, leaves, Each, Act, moves, meets, says, bench, Meets, marksMet, numbered, Again, closedLast, reports, andStanding, reportedAs, Spaced, EndRight,
-}
+use Rattle.promise.specs.Bench.{Turn, leaves, Each, Act, moves, meets, says, bench, Meets}
+use Rattle.promise.specs.Bench.{marksMet, numbered, Again, closedLast, reports, andStanding, reportedAs, Spaced, EndRight}
 use Rattle.promise.specs.Demand.{Demanded}
 use Rattle.promise.proofs.Tests.{clash}
 use Rattle.promise.proofs.Legs.{number-step, number-leg, length-ranks}

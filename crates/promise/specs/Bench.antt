@@ -12,9 +12,8 @@ use Rattle.listing.specs.Pattern.{differing}
 use Rattle.listing.specs.Orders.{Order, carry}
 use Rattle.promise.specs.Carriage.{carriage}
 use Rattle.promise.specs.Plan.{jacks, Family, Leg, rankAt, ranks, marks, stepOf, legOf}
-use Rattle.promise.specs.Campaign.{
-  State, Call, request, report, Word, wordOf, isClosing, tick, Answer, movement, mark, theEnd, taken, refusal, Setting, first, answer, after,
-}
+use Rattle.promise.specs.Campaign.{State, Call, request, report, Word, wordOf, isClosing, tick, Answer}
+use Rattle.promise.specs.Campaign.{movement, mark, theEnd, taken, refusal, Setting, first, answer, after}
 
 -- ---- calls, one after the other
 

@@ -28,25 +28,53 @@ pub record State : Type 0 where
 -- the state with another panel
 abbrev pub withPanel : List ℕ → State → State
 withPanel p s = record {
-  panel = p; leg = s .leg; step = s .step; covered = s .covered; opened = s .opened; errors = s .errors; standing = s .standing; ended = s .ended;
+  panel = p;
+  leg = s .leg;
+  step = s .step;
+  covered = s .covered;
+  opened = s .opened;
+  errors = s .errors;
+  standing = s .standing;
+  ended = s .ended;
 }
 
 -- the state with a mark standing, or none
 abbrev pub withMark : Bool → State → State
 withMark b s = record {
-  panel = s .panel; leg = s .leg; step = s .step; covered = s .covered; opened = s .opened; errors = s .errors; standing = b; ended = s .ended;
+  panel = s .panel;
+  leg = s .leg;
+  step = s .step;
+  covered = s .covered;
+  opened = s .opened;
+  errors = s .errors;
+  standing = b;
+  ended = s .ended;
 }
 
 -- the state with other counts
 abbrev pub withCounts : ℕ → ℕ → ℕ → State → State
 withCounts c o e s = record {
-  panel = s .panel; leg = s .leg; step = s .step; covered = c; opened = o; errors = e; standing = s .standing; ended = s .ended;
+  panel = s .panel;
+  leg = s .leg;
+  step = s .step;
+  covered = c;
+  opened = o;
+  errors = e;
+  standing = s .standing;
+  ended = s .ended;
 }
 
 -- the state at another leg and step, or at the end, with no mark standing
 abbrev pub placed : ℕ → ℕ → Bool → State → State
 placed i k b s = record {
-  panel = s .panel; leg = i; step = k; covered = s .covered; opened = s .opened; errors = s .errors; standing = false; ended = b;
+  panel = s .panel;
+  leg = i;
+  step = k;
+  covered = s .covered;
+  opened = s .opened;
+  errors = s .errors;
+  standing = false;
+  ended = b;
 }
 
 -- ---- calls and answers

@@ -8,9 +8,8 @@ use mathlib.Core.Option.{Option, none, some}
 use lib.ListN.{length}
 use Rattle.listing.specs.Orders.{Order}
 use Rattle.promise.specs.Plan.{marks}
-use Rattle.promise.specs.Campaign.{
-  State, Call, request, report, tick, Answer, movement, mark, theEnd, taken, refusal, Setting, numberOf, todo, offer, answer, after,
-}
+use Rattle.promise.specs.Campaign.{State, Call, request, report, tick, Answer, movement, mark, theEnd}
+use Rattle.promise.specs.Campaign.{taken, refusal, Setting, numberOf, todo, offer, answer, after}
 use Rattle.promise.specs.Bench.{Turn}
 
 -- the most calls that one mark takes where no error is reported: its orders, the mark itself, its report. From 2 ports on this is ports plus one
