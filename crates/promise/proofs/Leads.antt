@@ -1,6 +1,6 @@
 -- Between marks exactly the orders come that lead there: the carriage before a leg's first mark, inside a leg the family's orders to the neighbour.
 -- Assumes nothing.
-use mathlib.Core.Path.{_≡_, refl, sym, ap, ap₂, _∙_}
+use mathlib.Core.Path.{_≡_, refl, sym, ap, _∙_}
 use mathlib.Core.Bool.{Bool, true, false, not}
 use mathlib.Core.List.{List, [], _∷_, _++_, append-nil}
 use mathlib.Core.Option.{some}
@@ -9,12 +9,12 @@ use native.Mathlib.Omega.{arith}
 use lib.ListN.{length}
 use lib.Seq.{append-snoc}
 use Rattle.listing.specs.Orders.{Order}
-use Rattle.promise.specs.Plan.{Lawful, Accepted}
+use Rattle.promise.specs.Plan.{Lawful, Leg, Accepted}
 use Rattle.promise.specs.Campaign.{State, Setting, first, here, wanted, todo, toCome}
 use Rattle.promise.specs.Fitness.{Fit, OnTheWay}
 use Rattle.promise.specs.Bench.{Turn, Act, acts, leadTo, Led}
 use Rattle.promise.proofs.Tests.{clash}
-use Rattle.promise.proofs.Legs.{stepOf-number, legOf-number}
+use Rattle.promise.proofs.Legs.{placeOf-number}
 use Rattle.promise.proofs.Ways.{some-eq, way-first, way-next}
 use Rattle.promise.proofs.Steps.{Closes, to-step, to-leg, to-end, moves-on, hands-out, ends, closes}
 use Rattle.promise.proofs.Steps.{errs, refuses, over-here, step-on, History, stop, then, fit-start}
@@ -34,24 +34,14 @@ led-same C xs e f g h x = rw (e, f, g, ← h) x
 
 module _ (C : Setting) (lawful : Lawful (C .family)) (accepted : Accepted (C .family) (C .legs)) where
   -- where a mark was closed, all that leads to the next is to come
-  leading-closed : {x t : State} → x .leg < length (C .legs) → x .panel ≡ wanted C x → Closes C x t → Fit C t → Leading C t false [] (t .panel)
+  next-orders : {x t : State} → x .leg < length (C .legs) → x .panel ≡ wanted C x → Closes C x t → Fit C t → t .ended ≡ false
+      → todo C t ≡ some (leadTo (C .family) (here C t) (t .step) (t .panel))
   unfolding OnTheWay
-  leading-closed {x} {t} l p (to-step a) f = record {
-    standing = λ y. (refl, refl);
-    repeat = λ y. clash y refl;
-    onward = λ st en ag vs w. some-eq (sym w ∙ ap (toCome (C .family) (here C x) (suc (x .step))) p
-        ∙ way-next (C .family) lawful (here C x) (x .step) (λ i h. accepted .listed (x .leg) i l (omega arith)));
-  }
-  leading-closed {x} {t} l p (to-leg a b) f = record {
-    standing = λ y. (refl, refl);
-    repeat = λ y. clash y refl;
-    onward = λ st en ag vs w. some-eq (sym w ∙ way-first (C .family) (here C t) (t .panel) (f .between refl refl));
-  }
-  leading-closed {x} {t} l p (to-end a b) f = record {
-    standing = λ y. (refl, refl);
-    repeat = λ y. clash y refl;
-    onward = λ st en ag vs w. clash refl en;
-  }
+  next-orders {x} l p (to-step a) f en =
+      ap (toCome (C .family) (here C x) (suc (x .step))) p
+      ∙ way-next (C .family) lawful (here C x) (x .step) (λ i h. accepted .listed (x .leg) i l (omega arith))
+  next-orders {t = t} l p (to-leg a b) f en = way-first (C .family) (here C t) (t .panel) (f .between refl refl)
+  next-orders l p (to-end a b) f en = clash refl en
 
   led-from : {s : State} {ts : List Turn} (again : Bool) (os : List Order) (last : List ℕ) → Leading C s again os last → History C s ts
       → Led C again os last (s .panel) (acts ts)
@@ -65,15 +55,18 @@ module _ (C : Setting) (lawful : Lawful (C .family)) (accepted : Accepted (C .fa
   }) h
   led-from {s} again os last L (then f (hands-out st en w) h) = (
     λ ag. sym (append-nil os) ∙ L .onward st en ag [] w
-        ∙ sym (ap₂ (λ l k. leadTo (C .family) l k last) (legOf-number (C .legs) (s .leg) (s .step) (f .leg) (f .step))
-        (stepOf-number (C .legs) (s .leg) (s .step) (f .leg) (f .step))),
+        ∙ sym (ap (λ (z : Leg × ℕ). leadTo (C .family) (z .0) (z .1) last) (placeOf-number (C .legs) (s .leg) (s .step) (f .leg) (f .step))),
     led-from false [] (s .panel) (record { standing = λ y. (refl, refl); repeat = λ y. clash y refl; onward = λ x. clash refl x }) h,
   )
   led-from again os last L (then f (ends en) h) = led-from again os last L h
   led-from {s} again os last L (then {t = t} {ts = ts} f (closes st cl x) h) =
       let none-yet : (os ≡ []) × (last ≡ s .panel) = L .standing st in
       let later : Led C false [] (t .panel) (t .panel) (acts ts) =
-      led-from false [] (t .panel) (leading-closed (f .leg) (f .atMark st) x (fit-start h)) h in
+      led-from false [] (t .panel) (record {
+        standing = λ y. (refl, refl);
+        repeat = λ y. clash y refl;
+        onward = λ st' en ag vs w. some-eq (sym w ∙ next-orders (f .leg) (f .atMark st) x (fit-start h) en);
+      }) h in
       led-same C (acts ts) (ap not cl) (none-yet .0) (none-yet .1) (closed-so x .panel) later
   led-from {s} again os last L (then f (errs st lt) h) = led-from true os last (record {
     standing = λ y. clash y refl;

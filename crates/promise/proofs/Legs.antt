@@ -8,7 +8,7 @@ use native.Mathlib.Omega.{arith}
 use lib.ListN.{length, getD, length-append, List·getD-append}
 use lib.Seq.{getD-append-add}
 use borrow.Author.Tests.{le-leb, lt-leb}
-use Rattle.promise.specs.Plan.{Family, Leg, legAt, stepped, rankAt, walk, ranks, marks, number, stepOf, legOf}
+use Rattle.promise.specs.Plan.{Family, Leg, legAt, stepped, rankAt, walk, ranks, marks, number, placeOf}
 
 -- ---- the ranks that a leg names
 
@@ -67,25 +67,15 @@ number-last (l ∷ []) zero h = omega arith
 number-last (l ∷ m ∷ ls) zero h = absurd (omega arith)
 number-last (l ∷ ls) (suc i) h = omega (arith, number-last ls i (omega arith))
 
--- a mark's step is found again from its number
-pub stepOf-number : (ls : List Leg) (i k : ℕ) → i < length ls → k ≤ legAt ls i .run → stepOf ls (number ls i k) ≡ k
-unfolding number stepOf
-stepOf-number [] i k h e = absurd (omega arith)
-stepOf-number (l ∷ ls) zero k h e = rw (le-leb k (l .run) e)
-stepOf-number (l ∷ ls) (suc i) k h e =
+-- a mark's leg and step are found again from its number
+pub placeOf-number : (ls : List Leg) (i k : ℕ) → i < length ls → k ≤ legAt ls i .run → placeOf ls (number ls i k) ≡ (legAt ls i, k)
+unfolding number placeOf
+placeOf-number [] i k h e = absurd (omega arith)
+placeOf-number (l ∷ ls) zero k h e = rw (le-leb k (l .run) e)
+placeOf-number (l ∷ ls) (suc i) k h e =
     let past : l .run < suc (l .run) + number ls i k = omega arith in
     let within : suc (l .run) + number ls i k - suc (l .run) ≡ number ls i k = omega arith in
-    rw (lt-leb (suc (l .run) + number ls i k) (l .run) past, within) (stepOf-number ls i k (omega arith) e)
-
--- and so is its leg
-pub legOf-number : (ls : List Leg) (i k : ℕ) → i < length ls → k ≤ legAt ls i .run → legOf ls (number ls i k) ≡ legAt ls i
-unfolding number legOf
-legOf-number [] i k h e = absurd (omega arith)
-legOf-number (l ∷ ls) zero k h e = rw (le-leb k (l .run) e)
-legOf-number (l ∷ ls) (suc i) k h e =
-    let past : l .run < suc (l .run) + number ls i k = omega arith in
-    let within : suc (l .run) + number ls i k - suc (l .run) ≡ number ls i k = omega arith in
-    rw (lt-leb (suc (l .run) + number ls i k) (l .run) past, within) (legOf-number ls i k (omega arith) e)
+    rw (lt-leb (suc (l .run) + number ls i k) (l .run) past, within) (placeOf-number ls i k (omega arith) e)
 
 -- ---- the plan's list
 

@@ -73,12 +73,12 @@ newest false false false total n = n
 abbrev pub newMark : Setting → State → Bool → ℕ
 newMark C s again = newest (s .ended) (s .standing) again (marks (C .legs)) (numberOf C s)
 
-new-by : (C : Setting) (s : State) (again en st : Bool) → s .ended ≡ en → s .standing ≡ st
+pub new-by : (C : Setting) (s : State) (again en st : Bool) → s .ended ≡ en → s .standing ≡ st
     → newMark C s again ≡ newest en st again (marks (C .legs)) (numberOf C s)
 new-by C s again en st e f = ap₂ (λ x y. newest x y again (marks (C .legs)) (numberOf C s)) e f
 
 -- closing a mark leads to the number after its own
-new-closed : {C : Setting} {s t : State} → Closes C s t → newMark C t false ≡ suc (numberOf C s)
+pub new-closed : {C : Setting} {s t : State} → Closes C s t → newMark C t false ≡ suc (numberOf C s)
 unfolding newest
 new-closed {C} {s} (to-step a) = number-step (C .legs) (s .leg) (s .step)
 new-closed {C} {s} (to-leg a b) = number-leg (C .legs) (s .leg) b ∙ ap (λ j. suc (number (C .legs) (s .leg) j)) (sym a)

@@ -11,19 +11,20 @@ use native.Mathlib.Omega.{arith}
 use lib.ListN.{length}
 use Rattle.listing.specs.Orders.{Order, carry}
 use Rattle.listing.proofs.Numbers.{either, test}
-use Rattle.promise.specs.Plan.{Lawful, Accepted, marks, number}
+use Rattle.promise.specs.Plan.{Lawful, Accepted, marks}
 use Rattle.promise.specs.Campaign.{State, withPanel, withMark, Call, request, report, wordOf, isError, error, tick, tallied, Answer, movement}
 use Rattle.promise.specs.Campaign.{mark, theEnd, taken, refusal, Setting, first, here, numberOf, todo, offer, answer, after}
 use Rattle.promise.specs.Fitness.{Fit}
 use Rattle.promise.specs.Bench.{Turn, run, leaves, turns, leftBy, Act, inFront, acts, reports}
 use Rattle.promise.specs.Progress.{perMark, callsToEnd, howMany, work, broughtOn, Unrefused, dueCall, promptly}
 use Rattle.promise.proofs.Tests.{clash}
-use Rattle.promise.proofs.Legs.{number-below, number-first, number-step, number-leg}
+use Rattle.promise.proofs.Legs.{number-below, number-first}
 use Rattle.promise.proofs.Ways.{way-found}
-use Rattle.promise.proofs.Steps.{Closes, to-step, to-leg, to-end, moves-on, hands-out, ends, closes}
+use Rattle.promise.proofs.Steps.{Closes, moves-on, hands-out, ends, closes}
 use Rattle.promise.proofs.Steps.{errs, refuses, does-so, not-ended, closing-error, coming-here, over-here, step-on}
 use Rattle.promise.proofs.Steps.{fit-first, fit-after, History, stop, then, fit-start, fit-last, history}
 use Rattle.promise.proofs.Refusals.{offered-so, no-refusal, served, ran-taken}
+use Rattle.promise.proofs.Marks.{closed-so, newest, new-by, new-closed}
 use Rattle.promise.proofs.Tallies.{error-counts, counted-so}
 
 -- the work by its parts
@@ -77,18 +78,15 @@ module _ (C : Setting) (lawful : Lawful (C .family)) (accepted : Accepted (C .fa
       (w .0, coming-here C lawful accepted t f (w .0) (w .1) .few, work-by C t false false (some (w .0)) en st (w .1))
 
   -- after closing a mark no more is left than the marks after it take
-  work-closed : {x t : State} → x .leg < length (C .legs) → x .step ≤ here C x .run → Closes C x t → Fit C t
-      → work C t ≤ (marks (C .legs) - suc (numberOf C x)) * perMark C
-  work-closed {x} {t} l k (to-step a) f =
-      let w = work-open t f refl refl in
+  work-closed : {x t : State} → Closes C x t → Fit C t → work C t ≤ (marks (C .legs) - suc (numberOf C x)) * perMark C
+  unfolding newest
+  work-closed {x} {t} c f =
+      let st : t .standing ≡ false = closed-so c .standing in
+      either (test (t .ended)) (λ en. omega (arith, work-by C t true false (todo C t) en st refl)) (λ en.
+      let next : numberOf C t ≡ suc (numberOf C x) = sym (new-by C t false false false en st) ∙ new-closed c in
+      let w = work-open t f en st in
       one-less (marks (C .legs) - suc (numberOf C x)) (marks (C .legs) - suc (numberOf C t)) (C .family .ports - 1) (length (w .0)) (work C t)
-      (omega (arith, number-below (C .legs) (x .leg) (suc (x .step)) l a, number-step (C .legs) (x .leg) (x .step))) (w .1) (w .2)
-  work-closed {x} {t} l k (to-leg a b) f =
-      let w = work-open t f refl refl in
-      one-less (marks (C .legs) - suc (numberOf C x)) (marks (C .legs) - suc (numberOf C t)) (C .family .ports - 1) (length (w .0)) (work C t)
-      (omega (arith, number-below (C .legs) (suc (x .leg)) 0 b (omega arith), number-leg (C .legs) (x .leg) b, ap (λ j. number (C .legs) (x .leg) j) a))
-      (w .1) (w .2)
-  work-closed {x} {t} l k (to-end a b) f = omega (arith, work-by C t true false (todo C t) refl refl refl)
+      (omega (arith, number-below (C .legs) (t .leg) (t .step) (f .leg) (f .step))) (w .1) (w .2))
 
   -- ---- what each step does to the work
 
@@ -106,7 +104,7 @@ module _ (C : Setting) (lawful : Lawful (C .family)) (accepted : Accepted (C .fa
   -- closing a mark leaves less
   pub work-closing : (s t : State) (kind : ℕ) → Fit C s → s .standing ≡ true → Closes C (tallied (wordOf kind) s) t → Fit C t → work C t < work C s
   work-closing s t kind f st x g =
-      omega (arith, work-by C s false true (todo C s) (not-ended s f st) st refl, work-closed (f .leg) (f .step) x g)
+      omega (arith, work-by C s false true (todo C s) (not-ended s f st) st refl, work-closed x g)
 
   -- an error puts the mark off: one more is left
   pub work-erred : (s : State) → Fit C s → s .standing ≡ true → work C (withMark false (tallied error s)) ≡ suc (work C s)

@@ -16,7 +16,7 @@ use Rattle.promise.specs.Campaign.{State, withPanel, Setting, todo}
 use Rattle.promise.specs.Fitness.{Fit}
 use Rattle.promise.specs.Bench.{Turn, Act, moves, meets, says, acts, Spaced, NamesFew, DiffersFew}
 use Rattle.promise.proofs.Tests.{clash}
-use Rattle.promise.proofs.Legs.{stepOf-number}
+use Rattle.promise.proofs.Legs.{placeOf-number}
 use Rattle.promise.proofs.Ways.{some-eq}
 use Rattle.promise.proofs.Steps.{moves-on, hands-out, ends, closes, errs, refuses, coming-here, step-on, History, stop, then, fit-start}
 use Rattle.promise.proofs.Differing.{differing-order}
@@ -64,7 +64,7 @@ module _ (C : Setting) (lawful : Lawful (C .family)) (accepted : Accepted (C .fa
       let v : todo C (withPanel (carry o (s .panel)) s) ≡ some os = step-on C lawful accepted s f o os w in
       names-from (n + length (jacks o)) (λ us e k. omega (arith, r .0 (o ∷ os) w k, ap cords (some-eq (sym e ∙ v))), λ x. clash x st) h
   names-from {s} n r (then {t = t} f (hands-out st en w) h) = (
-    λ k. omega (arith, r .0 [] w (subst (λ z. 0 < z) (stepOf-number (C .legs) (s .leg) (s .step) (f .leg) (f .step)) k)),
+    λ k. omega (arith, r .0 [] w (subst (λ (z : Leg × ℕ). 0 < z .1) (placeOf-number (C .legs) (s .leg) (s .step) (f .leg) (f .step)) k)),
     names-from 0 (slack-first t (fit-start h)) h,
   )
   names-from n r (then f (ends en) h) = names-from n r h
