@@ -26,6 +26,7 @@ pub record Ready (n j k : ℕ) (p t : List ℕ) : Type 0 where
   pub left : j + k ≡ suc n
   pub right : (i : ℕ) → 1 ≤ i → i < j → entry p i ≡ entry t i
 
+-- at first all jacks are left
 pub ready-first : (n : ℕ) (p t : List ℕ) → Permutation n p → Permutation n t → Ready n 1 n p t
 ready-first n p t P T = record { from = P; to = T; jack = omega arith; left = omega arith; right = λ i a b. absurd (omega arith) }
 
@@ -36,6 +37,7 @@ from-right : (k j : ℕ) (p t : List ℕ) → entry p j ≡ entry t j → carria
 unfolding carriageFrom
 from-right k j p t e = rw (eq-eqb (entry p j) (entry t j) e)
 
+-- and is done
 ready-right : (n j k : ℕ) (p t : List ℕ) → Ready n j (suc k) p t → entry p j ≡ entry t j → Ready n (suc j) k p t
 ready-right n j k p t R e = record {
   from = R .from;
@@ -51,9 +53,11 @@ unfolding carriageFrom
 from-wrong k j p t e = rw (ne-eqb (entry p j) (entry t j) e)
 
 module _ (n j k : ℕ) (p t : List ℕ) (R : Ready n j (suc k) p t) (wrong : entry p j ≢ entry t j) where
+  -- the port that is wanted stands on the panel
   held : Among n (holder p (entry t j)) × (entry p (holder p (entry t j)) ≡ entry t j)
   held = holds n p (R .from) (entry t j) (R .to .ports j (omega (arith, R .jack, R .left)))
 
+  -- at a later jack, since the jacks before hold other ports of the target
   later : j < holder p (entry t j)
   later =
       let h : ℕ = holder p (entry t j) in
@@ -62,9 +66,11 @@ module _ (n j k : ℕ) (p t : List ℕ) (R : Ready n j (suc k) p t) (wrong : ent
       either (same? h j) (λ e. absurd (wrong (ap (entry p) (sym e) ∙ held .1))) (λ e.
       absurd (e (R .to .apart h j (held .0) among (sym (R .right h (held .0 .0) (omega arith)) ∙ held .1)))))
 
+  -- so the swap is in shape
   fetch-shaped : InShape n (fetch p t j)
   fetch-shaped = omega (arith, R .jack, later, held .0)
 
+  -- and after it the jack is done
   ready-fetched : Ready n (suc j) k (carry (fetch p t j) p) t
   ready-fetched = record {
     from = carry-permutation n (fetch p t j) p fetch-shaped (R .from);
@@ -142,6 +148,7 @@ pub record First (n : ℕ) (p t : List ℕ) (o : Order) (os : List Order) : Type
   pub permutation : Permutation n (carry o p)
   pub shape : InShape n o
 
+-- the first order of what is left, from the panel on its way
 first-from : (n j k : ℕ) (p t : List ℕ) → Ready n j k p t → (o : Order) (os : List Order) → carriageFrom k j p t ≡ o ∷ os → First n p t o os
 unfolding carriageFrom
 first-from n j zero p t R o os h = absurd (let z : _≡_ {A = ℕ} 0 1 = cc in omega arith)
@@ -157,6 +164,7 @@ first-from n j (suc k) p t R o os h =
 -- ---- the laws, from any permutation to any other of the same length
 
 module _ (n : ℕ) (p t : List ℕ) (P : Permutation n p) (T : Permutation n t) where
+  -- the whole carriage is what is left at jack 1
   by-carriage : carriage p t ≡ carriageFrom n 1 p t
   by-carriage = afresh n 1 n p t (ready-first n p t P T)
 

@@ -25,6 +25,7 @@ use Rattle.promise.proofs.Promise.{promise}
 abbrev patterns : Family → List (ℕ × ℕ) → List (List ℕ)
 patterns F ms = map (λ (x : ℕ × ℕ). F .pattern (x .1)) ms
 
+-- where every mark meets its pattern, the panels at the marks are their patterns
 shown-so : (F : Family) (xs : List Act) (again : Bool) (m : ℕ × ℕ) (p : List ℕ) → Meets F p xs → shown again m p xs ≡ patterns F (fresh again m xs)
 unfolding Meets shown fresh
 shown-so F [] again m p h = refl
@@ -37,11 +38,13 @@ shown-so F (meets k r ∷ xs) again m p h = by-repeat (again && isMark m k r) (s
     by-repeat false e = ap₂ {C = List (List ℕ)} (λ q l. q ∷ l) (h .0) e
 shown-so F (says w ∷ xs) again m p h = shown-so F xs (not (isClosing w)) m p h
 
+-- numbers do not change patterns
 patterns-numbered : (F : Family) (j : ℕ) (rs : List ℕ) → patterns F (numbered j rs) ≡ map (F .pattern) rs
 unfolding numbered
 patterns-numbered F j [] = refl
 patterns-numbered F j (r ∷ rs) = ap {B = List (List ℕ)} (λ l. F .pattern r ∷ l) (patterns-numbered F (suc j) rs)
 
+-- at each place the pattern of the rank there
 map-at : (f : ℕ → List ℕ) (l : List ℕ) (i : ℕ) → i < length l → getD (map f l) i [] ≡ f (getD l i 0)
 map-at f [] i h = absurd (omega arith)
 map-at f (x ∷ l) zero h = refl
@@ -80,6 +83,7 @@ module _ (F : Family) (circuit : Circuit F) where
   neighbour-listed false r h = either (on-cases r h) (λ c. omega arith) (λ c. omega arith)
   neighbour-listed true r h = either (back-cases r h) (λ c. omega arith) (λ c. omega arith)
 
+  -- any number of steps from a listed rank
   stepped-listed : (back : Bool) (r : ℕ) → r < F .size → (k : ℕ) → stepped F back r k < F .size
   stepped-listed back r h zero = h
   stepped-listed back r h (suc k) = neighbour-listed back (stepped F back r k) (stepped-listed back r h k)
@@ -89,6 +93,7 @@ module _ (F : Family) (circuit : Circuit F) where
   Round start false i r = (r ≡ start + i) ⊎ (r + F .size ≡ start + i)
   Round start true i r = (r + i ≡ start) ⊎ (r + i ≡ start + F .size)
 
+  -- each step of a walk is such
   round : (start : ℕ) → start < F .size → (back : Bool) (i : ℕ) → i < F .size → Round start back i (stepped F back start i)
   unfolding Round
   round start fits false zero h = inl (omega arith)
@@ -128,6 +133,7 @@ module _ (F : Family) (circuit : Circuit F) where
   round-place start fits true r h =
       either (below? start r) (λ b. (start + F .size - r, omega arith, inr (omega arith))) (λ b. (start - r, omega arith, inl (omega arith)))
 
+  -- each rank has one place on the walk
   place : (start : ℕ) → start < F .size → (back : Bool) (r : ℕ) → r < F .size → Place F back start r
   place start fits back r h =
       let p : (i : ℕ) × (i < F .size) × Round start back i r = round-place start fits back r h in
@@ -142,14 +148,17 @@ module _ (F : Family) (circuit : Circuit F) where
   -- ---- a walk of the whole circuit, from any rank and either way
 
   module _ (start : ℕ) (fits : start < F .size) (back : Bool) (k : ℕ) (full : suc k ≡ F .size) where
+    -- it has as many patterns as the family
     walked-long : length (walked F back start k) ≡ F .size
     walked-long = length-map (walk F back start k) (F .pattern) ∙ length-walk F back start k ∙ full
 
+    -- at place i it has the pattern of the rank i steps on
     walked-at : (i : ℕ) → i < length (walked F back start k) → getD (walked F back start k) i [] ≡ F .pattern (stepped F back start i)
     walked-at i h =
         map-at (F .pattern) (walk F back start k) i (omega (arith, length-walk F back start k, walked-long))
         ∙ ap (F .pattern) (walk-at F back start k i (omega (arith, walked-long)))
 
+    -- each derangement stands on it once
     walked-once : (p : List ℕ) → Derangement (F .ports) p → Once p (walked F back start k)
     walked-once p d =
         let c : (r : ℕ) × (r < F .size) × (F .pattern r ≡ p) = circuit .each p d in
@@ -163,6 +172,7 @@ module _ (F : Family) (circuit : Circuit F) where
               (circuit .apart (stepped F back start i) (c .0) (stepped-listed back start fits i) (c .1) (sym (walked-at i h) ∙ e ∙ sym (c .2)));
         }
 
+    -- and nothing else does
     walked-derangement : (i : ℕ) → i < length (walked F back start k) → Derangement (F .ports) (getD (walked F back start k) i [])
     walked-derangement i h =
         subst (Derangement (F .ports)) (sym (walked-at i h)) (circuit .derangement (stepped F back start i) (stepped-listed back start fits i))
@@ -177,6 +187,7 @@ circuit-accepts F circuit legs some starts = record {
   listed = λ i k h e. stepped-listed F circuit (legAt legs i .back) (legAt legs i .start) (starts i h) k;
 }
 
+-- so is a plan of one leg with a listed start
 pub one-leg-accepted : (F : Family) → Circuit F → (l : Leg) → l .start < F .size → Accepted F (l ∷ [])
 one-leg-accepted F circuit l fits = circuit-accepts F circuit (l ∷ []) (omega arith) starts
   where

@@ -12,6 +12,7 @@ use Rattle.promise.specs.Fitness.{Fit}
 use Rattle.promise.proofs.Tests.{Tells, clash, tells-eqb, tells-leb, tells-ltb, tells-true, tells-not, tells-and, tells-implies, tells-same}
 use Rattle.promise.proofs.Ways.{tells-way}
 
+-- two tests, of which one passes or none
 or-left : (a b : Bool) → a ≡ true → (a || b) ≡ true
 or-left a b e = rw e
 

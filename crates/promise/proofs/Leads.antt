@@ -28,6 +28,7 @@ record Leading (C : Setting) (s : State) (again : Bool) (os : List Order) (last 
   onward : s .standing ≡ false → s .ended ≡ false → again ≡ false → (vs : List Order) → todo C s ≡ some vs
       → os ++ vs ≡ leadTo (C .family) (here C s) (s .step) last
 
+-- after a mark is closed no order came yet, and the panel is still the one at the mark
 led-same : (C : Setting) (xs : List Act) {b : Bool} {os : List Order} {last p q : List ℕ} → b ≡ false → os ≡ [] → last ≡ p → q ≡ p → Led C false [] q q xs
     → Led C b os last p xs
 led-same C xs e f g h x = rw (e, f, g, ← h) x
@@ -43,6 +44,7 @@ module _ (C : Setting) (lawful : Lawful (C .family)) (accepted : Accepted (C .fa
   next-orders {t = t} l p (to-leg a b) f en = way-first (C .family) (here C t) (t .panel) (f .between refl refl)
   next-orders l p (to-end a b) f en = clash refl en
 
+  -- from any such state exactly the orders come that lead to the marks
   led-from : {s : State} {ts : List Turn} (again : Bool) (os : List Order) (last : List ℕ) → Leading C s again os last → History C s ts
       → Led C again os last (s .panel) (acts ts)
   unfolding acts Led
@@ -75,6 +77,7 @@ module _ (C : Setting) (lawful : Lawful (C .family)) (accepted : Accepted (C .fa
   }) h
   led-from again os last L (then f (refuses k n) h) = led-from again os last L h
 
+  -- at first none came, and the panel is at home
   leading-first : Leading C (first C) false [] (C .family .home)
   unfolding first
   leading-first = record {

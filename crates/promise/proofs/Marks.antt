@@ -25,6 +25,7 @@ pub record Closed (s t : State) : Type 0 where
   pub sum : t .covered + t .opened ≡ s .covered + s .opened
   pub standing : t .standing ≡ false
 
+-- wherever closing leads
 pub closed-so : {C : Setting} {s t : State} → Closes C s t → Closed s t
 closed-so (to-step a) = record { panel = refl; sum = refl; standing = refl }
 closed-so (to-leg a b) = record { panel = refl; sum = refl; standing = refl }
@@ -32,6 +33,7 @@ closed-so (to-end a b) = record { panel = refl; sum = refl; standing = refl }
 
 -- ---- the plan's list from one of its marks on
 
+-- from its k-th place on: the k-th first
 numbered-at : (j : ℕ) (rs : List ℕ) (k : ℕ) → k < length rs → drop k (numbered j rs) ≡ (j + k, getD rs k 0) ∷ drop (suc k) (numbered j rs)
 unfolding numbered
 numbered-at j [] k h = absurd (omega arith)
@@ -39,6 +41,7 @@ numbered-at j (r ∷ rs) zero h = ap {B = List (ℕ × ℕ)} (λ z. (z, r) ∷ n
 numbered-at j (r ∷ rs) (suc k) h =
     numbered-at (suc j) rs k (omega arith) ∙ ap {B = List (ℕ × ℕ)} (λ z. (z, getD rs k 0) ∷ drop (suc k) (numbered (suc j) rs)) (omega arith)
 
+-- numbers make the list no longer
 pub length-numbered : (j : ℕ) (rs : List ℕ) → length (numbered j rs) ≡ length rs
 unfolding numbered
 length-numbered j [] = refl
@@ -70,9 +73,11 @@ newest false true again total n = suc n
 newest false false true total n = suc n
 newest false false false total n = n
 
+-- the same of a state
 abbrev pub newMark : Setting → State → Bool → ℕ
 newMark C s again = newest (s .ended) (s .standing) again (marks (C .legs)) (numberOf C s)
 
+-- the same where it is known whether the end is shown and a mark stands
 pub new-by : (C : Setting) (s : State) (again en st : Bool) → s .ended ≡ en → s .standing ≡ st
     → newMark C s again ≡ newest en st again (marks (C .legs)) (numberOf C s)
 new-by C s again en st e f = ap₂ (λ x y. newest x y again (marks (C .legs)) (numberOf C s)) e f

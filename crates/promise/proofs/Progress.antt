@@ -47,6 +47,7 @@ unfolding run
 length-run C [] s = refl
 length-run C (c ∷ cs) s = ap suc (length-run C cs (after C c (answer C c s) s))
 
+-- as many calls as asked for
 length-promptly : (C : Setting) (n : ℕ) (s : State) → length (promptly C n s) ≡ n
 unfolding promptly
 length-promptly C zero s = refl
@@ -62,6 +63,7 @@ no-error true room taken xs = omega arith
 no-error false room taken xs = refl
 no-error b room (refusal k) xs = refl
 
+-- so none of them does
 due-errors : (C : Setting) (n : ℕ) (s : State) → reports isError (acts (run C (promptly C n s) s)) ≡ 0
 unfolding promptly run acts dueCall reports
 due-errors C zero s = refl
@@ -166,6 +168,7 @@ module _ (C : Setting) (lawful : Lawful (C .family)) (accepted : Accepted (C .fa
       (λ st. omega (arith, work-by C s false false (todo C s) en st refl))
 
   module _ (cs : List Call) where
+    -- the turns are a history
     told : History C (first C) (turns C cs)
     told = history C lawful accepted cs (first C) (fit-first C lawful accepted)
 
@@ -197,6 +200,7 @@ module _ (C : Setting) (lawful : Lawful (C .family)) (accepted : Accepted (C .fa
       by-mark true st e = let z : _≡_ {A = ℕ} 0 1 = cc (ran-taken C s f st) in omega arith
       by-mark false st e = no-refusal (offered-so C s f st) k (sym (served C s (C .width (offer C s)) f st (omega arith)) ∙ e)
 
+  -- so none of them is
   due-unrefused : (n : ℕ) (s : State) → Fit C s → Unrefused (run C (promptly C n s) s)
   unfolding promptly run Unrefused
   due-unrefused zero s f = tt

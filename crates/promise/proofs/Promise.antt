@@ -29,6 +29,7 @@ use Rattle.promise.proofs.Leads.{led-so}
 
 -- ---- single calls on a fit state
 
+-- the answer suits the call
 suits-so : {C : Setting} {s t : State} {c : Call} {a : Answer} → Does C s c a t → Suits c a
 suits-so (moves-on o os st en w) = refl
 suits-so (hands-out st en w) = refl
@@ -46,6 +47,7 @@ Right C s taken = Unit {0}
 Right C s (refusal k) = k ≢ 15
 
 module _ (C : Setting) (lawful : Lawful (C .family)) (accepted : Accepted (C .family) (C .legs)) where
+  -- every answer on a fit state is right so
   right-so : {s t : State} {c : Call} {a : Answer} → Fit C s → Does C s c a t → Right C s a
   right-so {s} f (moves-on o os st en w) = coming-here C lawful accepted s f (o ∷ os) w .shaped .0
   right-so f (hands-out st en w) = tt
@@ -69,9 +71,11 @@ module _ (C : Setting) (lawful : Lawful (C .family)) (accepted : Accepted (C .fa
   -- ---- any calls
 
   module _ (cs : List Call) where
+    -- the first state is fit
     start : Fit C (first C)
     start = fit-first C lawful accepted
 
+    -- the turns are a history
     told : History C (first C) (turns C cs)
     told = history C lawful accepted cs (first C) start
 
@@ -88,6 +92,7 @@ module _ (C : Setting) (lawful : Lawful (C .family)) (accepted : Accepted (C .fa
         let r = between-so C false (0, 0) (λ x. clash x refl) (λ x. clash x refl) told in
         (r .0, r .1 ∙ ap (λ k. drop k (planned C)) (number-first (C .legs)))
 
+    -- at the end no mark is left
     whole : leftBy C cs .ended ≡ true → marksMet (acts (turns C cs)) ≡ planned C
     unfolding newest
     whole e =
@@ -97,6 +102,7 @@ module _ (C : Setting) (lawful : Lawful (C .family)) (accepted : Accepted (C .fa
         (sym (list-over C) ∙ ap (λ b. drop (newest b (s .standing) (parted .0) (marks (C .legs)) (numberOf C s)) (planned C)) (sym e))
         ∙ parted .1
 
+    -- demand three
     pub promise : Demand C (turns C cs)
     unfolding first after
     promise =

@@ -20,6 +20,7 @@ use Rattle.promise.proofs.Tests.{clash, fails}
 use Rattle.promise.proofs.Ways.{no-none, way-found}
 use Rattle.promise.proofs.Fitness.{tells-fit}
 
+-- equal refusals have one number
 refusal-eq : {j k : ℕ} → refusal j ≡ refusal k → j ≡ k
 refusal-eq e = cc
 
@@ -31,6 +32,7 @@ pub data Offered (C : Setting) (s : State) : Answer → Type 0 where
   mark-next : s .ended ≡ false → todo C s ≡ some [] → Offered C s (mark (numberOf C s) (rankOf C s))
   order-next : (o : Order) (os : List Order) → s .ended ≡ false → todo C s ≡ some (o ∷ os) → Offered C s (movement o)
 
+-- in a fit state with no mark standing it is one of these
 pub offered-so : (C : Setting) (s : State) → Fit C s → s .standing ≡ false → Offered C s (offer C s)
 unfolding offer
 offered-so C s f st = by-end (s .ended) refl
@@ -80,6 +82,7 @@ module _ (C : Setting) (s : State) where
   at-kind : ℕ → Bool → Answer
   at-kind kind b = cond b (refusal 14) (at-mark kind (s .standing))
 
+  -- 15 is looked at first, of requests and of reports
   request-fit : (room : ℕ) → Fit C s → answer C (request room) s ≡ by-mark room (s .standing)
   unfolding answer by-room by-mark
   request-fit room f = rw (tells-fit C s .1 f)

@@ -28,10 +28,12 @@ module _ (C : Setting) (lawful : Lawful (C .family)) (accepted : Accepted (C .fa
   Room : State → ℕ → Type 0
   Room s n = ((vs : List Order) → todo C s ≡ some vs → n + length vs ≤ C .family .ports - 1) × (s .standing ≡ true → n ≡ 0)
 
+  -- with none since the last mark there is room
   room-first : (s : State) → Fit C s → Room s 0
   unfolding Room
   room-first s f = (λ vs w. omega (arith, coming-here C lawful accepted s f vs w .few), λ x. refl)
 
+  -- no order comes without room
   spaced-from : {s : State} {ts : List Turn} (n : ℕ) → Room s n → History C s ts → Spaced (C .family .ports - 1) n (acts ts)
   unfolding acts Spaced Room
   spaced-from n r (stop f) = tt
@@ -44,6 +46,7 @@ module _ (C : Setting) (lawful : Lawful (C .family)) (accepted : Accepted (C .fa
   spaced-from n r (then {t = t} f (errs st lt) h) = rw (r .1 st) (spaced-from 0 (room-first t (fit-start h)) h)
   spaced-from n r (then f (refuses k x) h) = spaced-from n r h
 
+  -- so of every history
   pub spaced-so : {s : State} {ts : List Turn} → History C s ts → Spaced (C .family .ports - 1) 0 (acts ts)
   spaced-so {s} h = spaced-from 0 (room-first s (fit-start h)) h
 
@@ -53,10 +56,12 @@ module _ (C : Setting) (lawful : Lawful (C .family)) (accepted : Accepted (C .fa
   Slack : State → ℕ → Type 0
   Slack s n = ((vs : List Order) → todo C s ≡ some vs → 0 < s .step → n + cords vs ≤ C .family .reach) × (s .standing ≡ true → n ≡ 0)
 
+  -- with none named since the last mark there is room
   slack-first : (s : State) → Fit C s → Slack s 0
   unfolding Slack
   slack-first s f = (λ vs w k. omega (arith, coming-here C lawful accepted s f vs w .near k), λ x. refl)
 
+  -- no order names more than there is room for
   names-from : {s : State} {ts : List Turn} (n : ℕ) → Slack s n → History C s ts → NamesFew (C .legs) (C .family .reach) n (acts ts)
   unfolding acts NamesFew Slack cords
   names-from n r (stop f) = tt
@@ -72,11 +77,13 @@ module _ (C : Setting) (lawful : Lawful (C .family)) (accepted : Accepted (C .fa
   names-from n r (then {t = t} f (errs st lt) h) = rw (r .1 st) (names-from 0 (slack-first t (fit-start h)) h)
   names-from n r (then f (refuses k x) h) = names-from n r h
 
+  -- so of every history
   pub names-so : {s : State} {ts : List Turn} → History C s ts → NamesFew (C .legs) (C .family .reach) 0 (acts ts)
   names-so {s} h = names-from 0 (slack-first s (fit-start h)) h
 
 -- ---- where the orders name at most reach cords, at most reach cords differ
 
+-- each order changes at most what it names
 pub differs-so : (legs : List Leg) (reach : ℕ) (xs : List Act) (n : ℕ) (last p : List ℕ) → length p ≡ length last → differing last p ≤ n
     → NamesFew legs reach n xs → DiffersFew legs reach last p xs
 unfolding NamesFew DiffersFew

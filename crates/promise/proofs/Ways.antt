@@ -21,9 +21,11 @@ use Rattle.promise.proofs.Carriage.{First, carriage-first, carriage-rea
 
 -- ---- outcomes of a search
 
+-- what is found is one thing
 pub some-eq : {A : Type 0} {a b : A} → some a ≡ some b → a ≡ b
 some-eq e = cc
 
+-- and is not nothing
 pub no-none : {A B : Type 0} {a : A} {o : Option A} → o ≡ none → o ≡ some a → B
 no-none e f = absurd (let z : _≡_ {A = ℕ} 0 1 = cc in omega arith)
 
@@ -35,6 +37,7 @@ data Spot (p : List ℕ) (o : Order) (os : List Order) (q : List ℕ) : Type 0 w
   at-first : p ≡ q → rest p (o ∷ os) q ≡ some (o ∷ os) → Spot p o os q
   nowhere : rest p (o ∷ os) q ≡ none → Spot p o os q
 
+-- it is found at one of these
 spot : (p : List ℕ) (o : Order) (os : List Order) (q : List ℕ) → Spot p o os q
 unfolding rest orElse
 spot p o os q = go (rest (carry o p) os q) refl (same p q) refl
@@ -51,6 +54,7 @@ record Rest (p : List ℕ) (os : List Order) (q : List ℕ) (vs : List Order) : 
   panel : carryAll (take done os) p ≡ q
   left : drop done os ≡ vs
 
+-- what the search gives is so
 rest-so : (p : List ℕ) (os : List Order) (q : List ℕ) (vs : List Order) → rest p os q ≡ some vs → Rest p os q vs
 unfolding rest carryAll
 rest-so p [] q vs h = by-test (same p q) refl h
@@ -114,6 +118,7 @@ cords-drop zero os = omega arith
 cords-drop (suc i) [] = omega arith
 cords-drop (suc i) (o ∷ os) = omega (arith, cords-drop i os)
 
+-- and are in shape where all are
 shaped-drop : (n i : ℕ) (os : List Order) → AllInShape n os → AllInShape n (drop i os)
 shaped-drop n zero os h = h
 shaped-drop n (suc i) [] h = tt
@@ -126,6 +131,7 @@ pub way-first : (F : Family) (l : Leg) (q : List ℕ) → Permutation (F .ports)
 unfolding toCome
 way-first F l q P = rw (tells-permutation (F .ports) q .1 P)
 
+-- and where something is to come the panel is one, and it is the carriage
 way-carriage : (F : Family) (l : Leg) (q : List ℕ) (vs : List Order) → toCome F l 0 q ≡ some vs
     → Permutation (F .ports) q × (carriage q (F .pattern (rankAt F l 0)) ≡ vs)
 unfolding toCome
@@ -151,6 +157,7 @@ found-way F l (suc k) q vs h =
     rest-so (F .pattern (rankAt F l k)) (F .orders (l .back) (rankAt F l k)) q vs h in
     (r .done, r .within, r .panel)
 
+-- the test tells whether it may stand there
 pub tells-way : (F : Family) (l : Leg) (k : ℕ) (q : List ℕ) → Tells (found (toCome F l k q)) (OnTheWay F l k q)
 tells-way F l k q = (λ e. there (toCome F l k q) refl e, λ h. rw (way-found F l k q h .1))
   where
@@ -170,12 +177,15 @@ abbrev pub Listed : Family → Leg → ℕ → Type 0
 Listed F l k = (i : ℕ) → i ≤ k → rankAt F l i < F .size
 
 module _ (F : Family) (lawful : Lawful F) (l : Leg) where
+  -- the pattern of a listed rank is a permutation
   wanted-permutation : (k : ℕ) → Listed F l k → Permutation (F .ports) (F .pattern (rankAt F l k))
   wanted-permutation k listed = lawful .listed (rankAt F l k) (listed k (omega arith))
 
+  -- two listed ranks that a leg names one after the other are a step of the family
   inner : (k : ℕ) → Listed F l (suc k) → Step F (l .back) (rankAt F l k)
   inner k listed = lawful .steps (l .back) (rankAt F l k) (listed k (omega arith)) (listed (suc k) (omega arith))
 
+  -- the orders still to come do this
   pub coming : (k : ℕ) → Listed F l k → (q : List ℕ) (vs : List Order) → toCome F l k q ≡ some vs → Coming F l k q vs
   unfolding toCome
   coming zero listed q vs h =
