@@ -3,7 +3,7 @@
 -- Assumes nothing.
 use mathlib.Core.Path.{_≡_, refl, sym, ap, _∙_}
 use mathlib.Core.Logic.{_≢_}
-use mathlib.Core.Bool.{true, false}
+use mathlib.Core.Bool.{true, false, Bool}
 use Prim.Native.Nat.{ℕ, zero, suc, _+_, _*_, _-_, _/_, _%_, _≤_, _<_}
 use native.Mathlib.Nat.{mod-lt, div-add-mod', mul-le-mul-right}
 use native.Mathlib.Omega.{arith}
@@ -17,7 +17,7 @@ use Rattle.listing.specs.Rank.{fromEnd, perBlock, turned, place}
 use Rattle.listing.specs.Ends.{home}
 use Rattle.listing.specs.Orders.{Move, one, turn, source, carry, carryAll, Leads}
 use Rattle.listing.specs.Joins.{hop}
-use Rattle.listing.specs.Neighbours.{nextRank, previousRank, inside, onFrom, nextMove, previousMove}
+use Rattle.listing.specs.Neighbours.{nextRank, previousRank, inside, onFrom, nextMove, previousMove, rankBeside, moveBeside}
 use Rattle.listing.proofs.Numbers.{either, below?, same?, test, suc-before, is-same, is-other, odd-next}
 use Rattle.listing.proofs.Counts.{count-blocks, count-pos, count-2}
 use Rattle.listing.proofs.Places.{at-place}
@@ -253,14 +253,15 @@ previous-leads m r h =
     let on = next-leads m (previousRank n r) (previous-below n r h) in
     leads-back (rw (next-previous n r h) at on)
 
--- ---- and no other move
+-- ---- either way, and no other move
 
--- a move in the paper's form that leads to the next pattern is `nextMove`
-pub only-next : (m r : ℕ) (v : Move) → r < count (suc (suc m)) → Leads (suc (suc m)) v (at (suc (suc m)) r) (at (suc (suc m)) (nextRank (suc (suc m)) r))
-    → v ≡ nextMove (suc (suc m)) r
-only-next m r v h l = one-move (at-derangement (suc (suc m)) r h .permutation) l (next-leads m r h)
+-- one move leads from each rank to the one beside it
+pub beside-leads : (m : ℕ) (back : Bool) (r : ℕ) → r < count (suc (suc m))
+    → Leads (suc (suc m)) (moveBeside (suc (suc m)) back r) (at (suc (suc m)) r) (at (suc (suc m)) (rankBeside (suc (suc m)) back r))
+beside-leads m false r h = next-leads m r h
+beside-leads m true r h = previous-leads m r h
 
--- and one that leads to the previous is `previousMove`
-pub only-previous : (m r : ℕ) (v : Move) → r < count (suc (suc m))
-    → Leads (suc (suc m)) v (at (suc (suc m)) r) (at (suc (suc m)) (previousRank (suc (suc m)) r)) → v ≡ previousMove (suc (suc m)) r
-only-previous m r v h l = one-move (at-derangement (suc (suc m)) r h .permutation) l (previous-leads m r h)
+-- and a move in the paper's form that leads there is that one
+pub only-beside : (m : ℕ) (back : Bool) (r : ℕ) (v : Move) → r < count (suc (suc m))
+    → Leads (suc (suc m)) v (at (suc (suc m)) r) (at (suc (suc m)) (rankBeside (suc (suc m)) back r)) → v ≡ moveBeside (suc (suc m)) back r
+only-beside m back r v h l = one-move (at-derangement (suc (suc m)) r h .permutation) l (beside-leads m back r h)

@@ -1,7 +1,7 @@
 -- Next and previous round the circuit: the rank there, and the move that leads there in closed form.
 -- Assumes nothing.
 use Prim.Native.Nat.{ℕ, zero, suc, _-_, _/_, _%_}
-use mathlib.Core.Bool.{cond}
+use mathlib.Core.Bool.{Bool, true, false, cond}
 use lib.Dec.{eqb, ltb}
 use Rattle.listing.specs.Numbers.{before, is, odd}
 use Rattle.listing.specs.Count.{count}
@@ -46,3 +46,15 @@ nextMove (suc (suc (suc (suc m)))) r =
 -- the move from the pattern of rank r to the previous: the move that led from there, backward
 unfoldable pub previousMove : ℕ → ℕ → Move
 previousMove n r = inverse (nextMove n (previousRank n r))
+
+-- ---- the one or the other
+
+-- the rank one on, or one back, round the circuit
+abbrev pub rankBeside : ℕ → Bool → ℕ → ℕ
+rankBeside n false r = nextRank n r
+rankBeside n true r = previousRank n r
+
+-- the move that leads there
+abbrev pub moveBeside : ℕ → Bool → ℕ → Move
+moveBeside n false r = nextMove n r
+moveBeside n true r = previousMove n r

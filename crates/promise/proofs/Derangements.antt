@@ -12,19 +12,18 @@ use Rattle.listing.specs.Listing.{at}
 use Rattle.listing.specs.Rank.{rank}
 use Rattle.listing.specs.Ends.{home}
 use Rattle.listing.specs.Orders.{swap, turn, Move, nothing, one, two, orders, InForm, Leads}
-use Rattle.listing.specs.Neighbours.{nextRank, previousRank}
+use Rattle.listing.specs.Neighbours.{nextRank, previousRank, rankBeside, moveBeside}
 use Rattle.listing.proofs.Counts.{count-pos}
 use Rattle.listing.proofs.Ranks.{at-derangement, at-rank, rank-below, at-once}
 use Rattle.listing.proofs.Ends.{at-home}
 use Rattle.listing.proofs.Moves.{orders-shaped}
-use Rattle.listing.proofs.Neighbours.{next-leads, previous-leads}
-use Rattle.listing.proofs.OneMove.{one-move}
+use Rattle.listing.proofs.Neighbours.{beside-leads, only-beside}
 use Rattle.promise.specs.Plan.{cords, Lawful, Circuit, Leg, legAt}
 use Rattle.promise.specs.Campaign.{Call, Answer, Setting, first}
 use Rattle.promise.specs.Bench.{turns, leftBy, acts}
 use Rattle.promise.specs.Progress.{callsToEnd, promptly}
 use Rattle.promise.specs.Demand.{Demand, FullCircuit}
-use Rattle.promise.specs.Derangements.{rankBeside, moveBeside, derangements, onPorts}
+use Rattle.promise.specs.Derangements.{derangements, onPorts}
 use Rattle.promise.proofs.Straight.{straight-move}
 use Rattle.promise.proofs.Promise.{promise}
 use Rattle.promise.proofs.Circuit.{circuit-accepts, one-leg-accepted, full-circuit}
@@ -52,11 +51,6 @@ module _ (m : ℕ) where
   abbrev n : ℕ
   n = suc (suc m)
 
-  -- the move beside leads from rank to rank
-  pub beside-leads : (back : Bool) (r : ℕ) → r < count n → Leads n (moveBeside n back r) (at n r) (at n (rankBeside n back r))
-  beside-leads false r h = next-leads m r h
-  beside-leads true r h = previous-leads m r h
-
   -- the list is a lawful family
   pub lawful : Lawful (derangements n)
   unfolding derangements
@@ -64,7 +58,7 @@ module _ (m : ℕ) where
     home = subst (Permutation n) (at-home m) (at-derangement n 0 (count-pos m) .permutation);
     listed = λ r h. at-derangement n r h .permutation;
     steps = λ back r h k.
-        let l : Leads n (moveBeside n back r) (at n r) (at n (rankBeside n back r)) = beside-leads back r h in
+        let l : Leads n (moveBeside n back r) (at n r) (at n (rankBeside n back r)) = beside-leads m back r h in
         record {
           leads = l .makes;
           straight = straight-move n (moveBeside n back r) (at n r) (l .form) (at-derangement n r h .permutation);
@@ -90,7 +84,7 @@ module _ (m : ℕ) where
   pub list-decides : (back : Bool) (r : ℕ) → r < count n → (v : Move) → Leads n v (at n r) (at n (rankBeside n back r))
       → orders v ≡ derangements n .orders back r
   unfolding derangements
-  list-decides back r h v l = ap orders (one-move (at-derangement n r h .permutation) l (beside-leads back r h))
+  list-decides back r h v l = ap orders (only-beside m back r v h l)
 
   -- ---- demand three on n ports
 
