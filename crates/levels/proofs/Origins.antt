@@ -1,0 +1,2 @@
+-- Laws of a pattern's origin.
+-- Assumes nothing.

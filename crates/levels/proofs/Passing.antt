@@ -1,0 +1,2 @@
+-- Laws of what is passed over.
+-- Assumes nothing.

@@ -1,0 +1,20 @@
+-- `levels::counts::count_of` meets its contract: the table's rule.
+-- Assumes nothing.
+use borrow.Author.Needs.{needs}
+use Rattle.levels.proofs.CountTable.{count-at}
+use Rattle.levels.proofs.counts.count_of.Statement.{statement}
+use Rattle.levels.proofs.counts.count_of.Tie as tie
+use Rattle.levels.proofs.counts.count_of.Reads as reads
+use Rattle.levels.proofs.counts.count_of.Lts as lts
+
+mul-result : tie.Need-mul-result
+mul-result c = search needs
+
+array-read-result : tie.Need-array-read-result
+array-read-result c = search needs
+
+returns : tie.Need-returns
+returns c = count-at (c .args .n) (c .pre)
+
+pub count-of-spec : {M : Type 1} → statement M
+count-of-spec = tie.close (tie.spec mul-result array-read-result returns)

@@ -1,0 +1,29 @@
+use borrow.Author.Needs.{needs}
+use Rattle.levels.proofs.ranking.comes_first.Statement.{statement}
+use Rattle.levels.proofs.ranking.comes_first.Tie as tie
+use Rattle.levels.proofs.ranking.comes_first.Reads as reads
+use Rattle.levels.proofs.ranking.comes_first.Lts as lts
+use Rattle.levels.proofs.unranking.is_odd.Reads as is-odd-reads
+
+enum-known-c : tie.Need-enum-known-c
+enum-known-c c = search needs
+
+is-odd-requires : tie.Need-is-odd-requires
+is-odd-requires c κs = search needs
+
+enum-known-c-2 : tie.Need-enum-known-c-2
+enum-known-c-2 c = search needs
+
+is-odd-requires-2 : tie.Need-is-odd-requires-2
+is-odd-requires-2 c κs = search needs
+
+returns : tie.Need-returns
+returns c = ?
+
+returns-2 : tie.Need-returns-2
+returns-2 c = ?
+
+pub comes-first-spec : {M : Type 1} → statement M
+comes-first-spec =
+    tie.close
+    (tie.spec enum-known-c is-odd-requires enum-known-c-2 is-odd-requires-2 returns returns-2)

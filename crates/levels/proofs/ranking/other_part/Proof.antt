@@ -1,0 +1,43 @@
+use borrow.Author.Needs.{needs}
+use Rattle.levels.proofs.ranking.other_part.Statement.{statement}
+use Rattle.levels.proofs.ranking.other_part.Tie as tie
+use Rattle.levels.proofs.ranking.other_part.Reads as reads
+use Rattle.levels.proofs.ranking.other_part.Lts as lts
+use Rattle.levels.proofs.counts.count_of.Reads as count-of-reads
+
+enum-told : tie.Need-enum-told
+enum-told c = search needs
+
+sub-count-of : tie.Need-sub-count-of
+sub-count-of c = search needs
+
+count-of-requires : tie.Need-count-of-requires
+count-of-requires c κs = search needs
+
+enum-told-2 : tie.Need-enum-told-2
+enum-told-2 c = search needs
+
+sub-count-of-2 : tie.Need-sub-count-of-2
+sub-count-of-2 c = search needs
+
+count-of-requires-2 : tie.Need-count-of-requires-2
+count-of-requires-2 c κs = search needs
+
+returns : tie.Need-returns
+returns c = ?
+
+returns-2 : tie.Need-returns-2
+returns-2 c = ?
+
+pub other-part-spec : {M : Type 1} → statement M
+other-part-spec =
+    tie.close
+    (tie.spec
+    enum-told
+    sub-count-of
+    count-of-requires
+    enum-told-2
+    sub-count-of-2
+    count-of-requires-2
+    returns
+    returns-2)

@@ -1,0 +1,74 @@
+-- `levels::steps::back_b` meets its contract: each turn fills one jack more. The loop's invariant: the first j entries are the step's.
+-- Assumes nothing.
+use mathlib.Core.Path.{_≡_, refl, ap, _∙_}
+use Prim.Native.Nat.{ℕ, _≤_, _-_}
+use native.Mathlib.Omega.{arith}
+use borrow.Author.Needs.{needs}
+use lib.ListN.{length, take, length-set}
+use Rattle.listing.specs.Pattern.{tabulate}
+use Rattle.listing.specs.Steps.{unB}
+use Rattle.levels.specs.Entries.{byBackB}
+use Rattle.levels.proofs.Filling.{tabulate-none, tabulate-stored}
+use Rattle.levels.proofs.Less.{less-two}
+use Rattle.levels.proofs.steps.back_b.Statement.{statement}
+use Rattle.levels.proofs.steps.back_b.Tie as tie
+use Rattle.levels.proofs.steps.back_b.Reads as reads
+use Rattle.levels.proofs.steps.back_b.Lts as lts
+use Rattle.levels.proofs.steps.port_back_b.Reads as port-back-b-reads
+
+abbrev Inv-loop : tie.InvT-loop
+Inv-loop p n u₀ j₀ u j = (j ≤ n - 2) × (length u ≡ 20) × (take j u ≡ tabulate j (byBackB n (take n p)))
+
+abbrev μ-loop : tie.MeasureT-loop
+μ-loop p n u₀ j₀ u j = n - 2 - j
+
+loop-holds : tie.Need-loop-holds Inv-loop μ-loop
+loop-holds c = (search needs, refl, tabulate-none _ _)
+
+sub-loop : tie.Need-sub-loop Inv-loop μ-loop
+sub-loop c = search needs
+
+cast-at : tie.Need-cast-at Inv-loop μ-loop
+cast-at c = search needs
+
+add-port-back-b : tie.Need-add-port-back-b Inv-loop μ-loop
+add-port-back-b c = search needs
+
+port-back-b-requires : tie.Need-port-back-b-requires Inv-loop μ-loop
+port-back-b-requires c κs = search needs
+
+array-write-u : tie.Need-array-write-u Inv-loop μ-loop
+array-write-u c = search needs
+
+add-j : tie.Need-add-j Inv-loop μ-loop
+add-j c = search needs
+
+loop-less : tie.Need-loop-less Inv-loop μ-loop
+loop-less c = search needs
+
+loop-again : tie.Need-loop-again Inv-loop μ-loop
+loop-again c = let l = c .before .before in (search needs, search needs, tabulate-stored _ (l .loop .u) (l .loop .j) _ (omega arith) (l .loop .inv .2) (c .port-back-b .ensures))
+
+returns : tie.Need-returns Inv-loop μ-loop
+unfolding unB
+returns c = 
+    let n = c .before .before .args .n in
+    let e : c .before .loop .j ≡ n - 2 = omega arith in
+    (rw e at (c .before .loop .inv .2)) ∙ ap (λ (m : ℕ). tabulate m _) (less-two n)
+
+pub back-b-spec : {M : Type 1} → statement M
+back-b-spec =
+    tie.close
+    (tie.spec
+    Inv-loop
+    μ-loop
+    loop-holds
+    sub-loop
+    cast-at
+    add-port-back-b
+    port-back-b-requires
+    array-write-u
+    add-j
+    loop-less
+    loop-again
+    returns)

@@ -1,0 +1,22 @@
+-- What the steps, and the steps back, have at each jack: the values that their definitions tabulate.
+-- Assumes nothing.
+use Prim.Native.Nat.{ℕ}
+use mathlib.Core.List.{List}
+use Rattle.listing.specs.Numbers.{is, trade, raise, lower}
+use Rattle.listing.specs.Pattern.{entry}
+
+-- the port at jack j of A(i)
+abbrev pub byStepA : ℕ → ℕ → List ℕ → ℕ → ℕ
+byStepA n i t j = is j n i (trade i n (entry t j))
+
+-- the port at jack j of B(i)
+abbrev pub byStepB : ℕ → ℕ → List ℕ → ℕ → ℕ
+byStepB n i t j = is j n i (is j i n (raise i (entry t (lower i j))))
+
+-- the port at jack j back from A
+abbrev pub byBackA : ℕ → List ℕ → ℕ → ℕ
+byBackA n p j = trade n (entry p n) (entry p j)
+
+-- the port at jack j back from B
+abbrev pub byBackB : ℕ → List ℕ → ℕ → ℕ
+byBackB n p j = lower (entry p n) (entry p (raise (entry p n) j))
