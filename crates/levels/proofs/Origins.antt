@@ -1,2 +1,108 @@
--- Laws of a pattern's origin.
+-- The origin of a rank: the step and the shorter rank that it names make the pattern of the rank.
 -- Assumes nothing.
+use mathlib.Core.Path.{_≡_, refl, sym, ap, _∙_, subst}
+use mathlib.Core.Logic.{_≢_}
+use Prim.Native.Nat.{ℕ, zero, suc, _+_, _-_, _/_, _%_, _≤_, _<_}
+use native.Mathlib.Nat.{mod-lt, not-suc-le-zero}
+use native.Mathlib.Numerals.{add-one}
+use native.Mathlib.Omega.{arith}
+use borrow.Author.Tests.{lt-ltb, le-ltb}
+use Rattle.listing.specs.Numbers.{Among, before, odd}
+use Rattle.listing.specs.Count.{count}
+use Rattle.listing.specs.Steps.{stepA, stepB}
+use Rattle.listing.specs.Listing.{at}
+use Rattle.listing.specs.Rank.{fromEnd, perBlock, turned, unrank}
+use Rattle.listing.proofs.Numbers.{either, below?}
+use Rattle.listing.proofs.Places.{turned-below}
+use Rattle.listing.proofs.Ranks.{perBlock-pos, block-among}
+use Rattle.listing.proofs.Unranks.{unrank-at}
+use Rattle.levels.specs.Levels.{originIn, originOf}
+use Rattle.levels.specs.declared.types.Origin.{Origin}
+use Rattle.levels.specs.declared.types.Origin.the-variants.{ByA, ByB}
+use Rattle.levels.proofs.Less.{less-one}
+
+-- where there is a rank and a port there are two
+pub two-ports : (n r : ℕ) → n ≢ 0 → r < count n → 2 ≤ n
+unfolding count
+two-ports zero r h l = absurd (h refl)
+two-ports (suc zero) r h l = absurd (not-suc-le-zero l)
+two-ports (suc (suc m)) r h l = omega arith
+
+-- ---- the numbers that the code computes
+
+module _ (n r size : ℕ) (h : 2 ≤ n) (l : r < count n) (e : size ≡ perBlock n) where
+  -- a block has a pattern
+  pub size-some : 0 < size
+  size-some = rw e (some n h l) where
+    some : (k : ℕ) → 2 ≤ k → r < count k → 0 < perBlock k
+    some zero a b = absurd (omega arith)
+    some (suc zero) a b = absurd (omega arith)
+    some (suc (suc m)) a b = perBlock-pos m r b
+
+  -- fewer than n - 1 whole blocks come before
+  pub blocks-fewer : r / size < n - 1
+  blocks-fewer = rw e (fewer n h l) where
+    fewer : (k : ℕ) → 2 ≤ k → r < count k → r / perBlock k < k - 1
+    fewer zero a b = absurd (omega arith)
+    fewer (suc zero) a b = absurd (omega arith)
+    fewer (suc (suc m)) a b = omega (arith, block-among m r b)
+
+  module _ (u : ℕ) (t : u ≡ turned (odd (r / size + 1)) size (r % size)) where
+    -- the place in the block is in the block
+    pub place-inside : u < size
+    place-inside = rw t (turned-below (odd (r / size + 1)) size (r % size) (mod-lt r size-some))
+
+    known : originIn n (r / size + 1) u ≡ originOf n r
+    unfolding originOf
+    known = rw (t, add-one, e)
+
+    -- by A in the first part
+    pub origin-A : u < count (n - 1) → ByA (r / size + 1) u ≡ originOf n r
+    origin-A b = let b′ = rw (less-one n) at b in (rw (lt-ltb u (count (before n)) b′)) ∙ known
+
+    -- by B in the second, which is the reversed list
+    pub origin-B : count (n - 1) ≤ u → ByB (r / size + 1) (fromEnd size u) ≡ originOf n r
+    origin-B b =
+        let b′ = rw (less-one n) at b in
+        let i : u < size = place-inside in
+        let f : fromEnd size u ≡ fromEnd (count (before (before n))) (u - count (before n)) = omega arith in
+        (rw (le-ltb u (count (before n)) b′, f)) ∙ known
+
+-- ---- what an origin makes
+
+-- the step and the shorter rank of an origin make the pattern of rank r
+abbrev pub Makes : ℕ → ℕ → Origin → Type 0
+Makes n r (ByA i s) = (s < count (n - 1)) × (stepA n i (at (n - 1) s) ≡ at n r)
+Makes n r (ByB i s) = Among (n - 1) i × (s < count (n - 2)) × (stepB n i (at (n - 2) s) ≡ at n r)
+
+makes-A : (m r i s : ℕ) → r < count (suc (suc m)) → s < count (suc m) → stepA (suc (suc m)) i (unrank (suc m) s) ≡ unrank (suc (suc m)) r
+    → Makes (suc (suc m)) r (ByA i s)
+makes-A m r i s l b e =
+    let a : suc (suc m) - 1 ≡ suc m = omega arith in
+    rw a (b, ap (stepA (suc (suc m)) i) (sym (unrank-at (suc m) s b)) ∙ e ∙ unrank-at (suc (suc m)) r l)
+
+makes-B : (m r i s : ℕ) → Among (suc m) i → r < count (suc (suc m)) → s < count m → stepB (suc (suc m)) i (unrank m s) ≡ unrank (suc (suc m)) r
+    → Makes (suc (suc m)) r (ByB i s)
+makes-B m r i s fits l b e =
+    let a : suc (suc m) - 1 ≡ suc m = omega arith in
+    let a′ : suc (suc m) - 2 ≡ m = omega arith in
+    rw (a, a′) (fits, b, ap (stepB (suc (suc m)) i) (sym (unrank-at m s b)) ∙ e ∙ unrank-at (suc (suc m)) r l)
+
+-- the origin of a rank makes its pattern
+pub origin-makes : (n r : ℕ) → 2 ≤ n → r < count n → (o : Origin) → o ≡ originOf n r → Makes n r o
+unfolding originOf unrank
+origin-makes zero r h l o e = absurd (omega arith)
+origin-makes (suc zero) r h l o e = absurd (omega arith)
+origin-makes (suc (suc m)) r h l o e =
+    let n = suc (suc m) in
+    let size = perBlock n in
+    let i = suc (r / size) in
+    let u = turned (odd i) size (r % size) in
+    let inside : u < size = turned-below (odd i) size (r % size) (mod-lt r (perBlock-pos m r l)) in
+    subst (Makes n r) (sym e)
+    (either (below? u (count (suc m)))
+    (λ b. let t = lt-ltb u (count (suc m)) b in rw t (makes-A m r i u l b (rw t)))
+    (λ b.
+    let t = le-ltb u (count (suc m)) b in
+    let s = fromEnd (count m) (u - count (suc m)) in
+    rw t (makes-B m r i s (block-among m r l) l (omega arith) (rw t))))

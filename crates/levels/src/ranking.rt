@@ -1,8 +1,8 @@
 use crate::counts::{block_size, count_of};
+use crate::numbers::is_odd;
 use crate::panels::port_at;
 use crate::steps::{back_a, back_b};
 use crate::types::{Came, Level};
-use crate::unranking::is_odd;
 ghost use mathlib.Core.Path.{_≡_};
 ghost use mathlib.Core.Bool.{Bool, true, false, cond};
 ghost use Prim.Native.Nat.{suc, _-_, _≤_};
@@ -68,17 +68,24 @@ fn block_of(c: Came) -> u8
     }
 }
 
+// How many patterns of a block come before the part in which a pattern stands: none, or those by the other step.
+fn first_part(forward: bool, n: u8, c: Came) -> u64
+    requires { ⌜ (2 ≤ n) × (n ≤ mostPorts) ⌝ }
+    ensures { λ r. ⌜ r ≡ cond (comesFirst forward (wayOf c) (endOf c)) 0 (count (shorter (other (wayOf c)) n)) ⌝ }
+{
+    if comes_first(forward, c) {
+        return 0;
+    }
+    other_part(n, c)
+}
+
 // How many patterns of the list, read forward or backward, come before the part in which a pattern stands.
 pub fn passed_over(forward: bool, n: u8, c: Came) -> u64
     requires { ⌜ (2 ≤ n) × (n ≤ mostPorts) × Among (n - 1) (endOf c) ⌝ }
     ensures { λ r. ⌜ r ≡ passed forward (wayOf c) n (endOf c) ⌝ }
 {
     let blocks = blocks_before(forward, n, block_of(c)) as u64;
-    let whole = blocks * block_size(n);
-    if comes_first(forward, c) {
-        return whole;
-    }
-    whole + other_part(n, c)
+    blocks * block_size(n) + first_part(forward, n, c)
 }
 
 // One level of the place of p in the list, read forward or backward.

@@ -1,34 +1,13 @@
+use crate::numbers::{lowered, raised, traded};
 use crate::panels::port_at;
 ghost use mathlib.Core.Path.{_≡_};
 ghost use Prim.Native.Nat.{ℕ, _-_, _≤_};
 ghost use lib.ListN.{take};
-ghost use Rattle.listing.specs.Numbers.{Among, trade, raise, lower};
+ghost use Rattle.listing.specs.Numbers.{Among};
 ghost use Rattle.listing.specs.Pattern.{entry};
 ghost use Rattle.listing.specs.Steps.{stepA, stepB, unA, unB};
 ghost use Rattle.listing.specs.Limits.{mostPorts};
 ghost use Rattle.levels.specs.Entries.{byStepA, byStepB, byBackA, byBackB};
-
-// b for a, and any other value as it is.
-fn traded(a: u8, b: u8, v: u8) -> u8
-    ensures { λ r. ⌜ r ≡ trade a b v ⌝ }
-{
-    if v == a { b } else { v }
-}
-
-// One more from i on.
-fn raised(i: u8, v: u8) -> u8
-    requires { ⌜ v ≤ mostPorts ⌝ }
-    ensures { λ r. ⌜ r ≡ raise i v ⌝ }
-{
-    if i <= v { v + 1 } else { v }
-}
-
-// One less above i.
-fn lowered(i: u8, v: u8) -> u8
-    ensures { λ r. ⌜ r ≡ lower i v ⌝ }
-{
-    if i < v { v - 1 } else { v }
-}
 
 // The port at jack j of the pattern that A(i) makes from t.
 fn port_by_a(t: [u8; 20], n: u8, i: u8, j: u8) -> u8

@@ -1,31 +1,14 @@
 use crate::counts::{block_size, count_of};
+use crate::numbers::{from_end, is_odd, turned_place};
 use crate::steps::{step_a, step_b};
 use crate::types::Origin;
 ghost use mathlib.Core.Path.{_≡_};
-ghost use mathlib.Core.Bool.{Bool};
 ghost use Prim.Native.Nat.{_≤_, _<_};
 ghost use lib.ListN.{take};
-ghost use Rattle.listing.specs.Numbers.{odd};
 ghost use Rattle.listing.specs.Count.{count};
 ghost use Rattle.listing.specs.Listing.{at};
-ghost use Rattle.listing.specs.Rank.{turned};
 ghost use Rattle.listing.specs.Limits.{mostPorts};
 ghost use Rattle.levels.specs.Levels.{originOf};
-
-// Whether i is odd.
-pub fn is_odd(i: u8) -> bool
-    ensures { λ r. ⌜ r ≡ odd i ⌝ }
-{
-    i % 2 == 1
-}
-
-// Place s of m, counted from the end if the list is not read forward.
-fn turned_place(forward: bool, m: u64, s: u64) -> u64
-    requires { ⌜ s < m ⌝ }
-    ensures { λ r. ⌜ r ≡ turned forward m s ⌝ }
-{
-    if forward { s } else { m - 1 - s }
-}
 
 // The step that makes the pattern of a rank, and the rank of the shorter pattern.
 pub fn origin(n: u8, rank: u64) -> Origin
@@ -38,7 +21,7 @@ pub fn origin(n: u8, rank: u64) -> Origin
     if u < count_of(n - 1) {
         Origin::ByA(i, u)
     } else {
-        Origin::ByB(i, size - 1 - u)
+        Origin::ByB(i, from_end(size, u))
     }
 }
 

@@ -3,7 +3,7 @@ use Rattle.levels.proofs.ranking.comes_first.Statement.{statement}
 use Rattle.levels.proofs.ranking.comes_first.Tie as tie
 use Rattle.levels.proofs.ranking.comes_first.Reads as reads
 use Rattle.levels.proofs.ranking.comes_first.Lts as lts
-use Rattle.levels.proofs.unranking.is_odd.Reads as is-odd-reads
+use Rattle.levels.proofs.numbers.is_odd.Reads as is-odd-reads
 
 enum-known-c : tie.Need-enum-known-c
 enum-known-c c = search needs

@@ -8,7 +8,7 @@ use Rattle.levels.proofs.steps.port_back_a.Tie as tie
 use Rattle.levels.proofs.steps.port_back_a.Reads as reads
 use Rattle.levels.proofs.steps.port_back_a.Lts as lts
 use Rattle.levels.proofs.panels.port_at.Reads as port-at-reads
-use Rattle.levels.proofs.steps.traded.Reads as traded-reads
+use Rattle.levels.proofs.numbers.traded.Reads as traded-reads
 
 port-at-requires : tie.Need-port-at-requires
 port-at-requires c κs = search needs

@@ -10,8 +10,8 @@ use Rattle.levels.proofs.steps.port_back_b.Tie as tie
 use Rattle.levels.proofs.steps.port_back_b.Reads as reads
 use Rattle.levels.proofs.steps.port_back_b.Lts as lts
 use Rattle.levels.proofs.panels.port_at.Reads as port-at-reads
-use Rattle.levels.proofs.steps.lowered.Reads as lowered-reads
-use Rattle.levels.proofs.steps.raised.Reads as raised-reads
+use Rattle.levels.proofs.numbers.lowered.Reads as lowered-reads
+use Rattle.levels.proofs.numbers.raised.Reads as raised-reads
 
 port-at-requires : tie.Need-port-at-requires
 port-at-requires c κs = search needs

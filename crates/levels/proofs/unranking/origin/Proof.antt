@@ -5,8 +5,9 @@ use Rattle.levels.proofs.unranking.origin.Reads as reads
 use Rattle.levels.proofs.unranking.origin.Lts as lts
 use Rattle.levels.proofs.counts.block_size.Reads as block-size-reads
 use Rattle.levels.proofs.counts.count_of.Reads as count-of-reads
-use Rattle.levels.proofs.unranking.is_odd.Reads as is-odd-reads
-use Rattle.levels.proofs.unranking.turned_place.Reads as turned-place-reads
+use Rattle.levels.proofs.numbers.from_end.Reads as from-end-reads
+use Rattle.levels.proofs.numbers.is_odd.Reads as is-odd-reads
+use Rattle.levels.proofs.numbers.turned_place.Reads as turned-place-reads
 
 block-size-requires : tie.Need-block-size-requires
 block-size-requires c κs = search needs
@@ -35,11 +36,8 @@ sub-count-of c = search needs
 count-of-requires : tie.Need-count-of-requires
 count-of-requires c κs = search needs
 
-sub-t11 : tie.Need-sub-t11
-sub-t11 c = ?
-
-sub-t12 : tie.Need-sub-t12
-sub-t12 c = ?
+from-end-requires : tie.Need-from-end-requires
+from-end-requires c κs = ?
 
 returns : tie.Need-returns
 returns c = ?
@@ -60,7 +58,6 @@ origin-spec =
     turned-place-requires
     sub-count-of
     count-of-requires
-    sub-t11
-    sub-t12
+    from-end-requires
     returns
     returns-2)

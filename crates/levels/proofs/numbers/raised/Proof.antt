@@ -1,12 +1,12 @@
--- `levels::steps::raised` meets its contract: the test is the definition's.
+-- `levels::numbers::raised` meets its contract: the test is the definition's.
 -- Assumes nothing.
 use native.Mathlib.Omega.{arith}
 use borrow.Author.Needs.{needs}
 use Rattle.listing.proofs.Numbers.{raise-high, raise-low}
-use Rattle.levels.proofs.steps.raised.Statement.{statement}
-use Rattle.levels.proofs.steps.raised.Tie as tie
-use Rattle.levels.proofs.steps.raised.Reads as reads
-use Rattle.levels.proofs.steps.raised.Lts as lts
+use Rattle.levels.proofs.numbers.raised.Statement.{statement}
+use Rattle.levels.proofs.numbers.raised.Tie as tie
+use Rattle.levels.proofs.numbers.raised.Reads as reads
+use Rattle.levels.proofs.numbers.raised.Lts as lts
 
 add-result : tie.Need-add-result
 add-result c = search needs

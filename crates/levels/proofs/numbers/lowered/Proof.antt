@@ -1,12 +1,12 @@
--- `levels::steps::lowered` meets its contract: the test is the definition's.
+-- `levels::numbers::lowered` meets its contract: the test is the definition's.
 -- Assumes nothing.
 use native.Mathlib.Omega.{arith}
 use borrow.Author.Needs.{needs}
 use Rattle.listing.proofs.Numbers.{either, lower-cases}
-use Rattle.levels.proofs.steps.lowered.Statement.{statement}
-use Rattle.levels.proofs.steps.lowered.Tie as tie
-use Rattle.levels.proofs.steps.lowered.Reads as reads
-use Rattle.levels.proofs.steps.lowered.Lts as lts
+use Rattle.levels.proofs.numbers.lowered.Statement.{statement}
+use Rattle.levels.proofs.numbers.lowered.Tie as tie
+use Rattle.levels.proofs.numbers.lowered.Reads as reads
+use Rattle.levels.proofs.numbers.lowered.Lts as lts
 
 sub-result : tie.Need-sub-result
 sub-result c = search needs

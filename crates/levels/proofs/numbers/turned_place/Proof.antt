@@ -1,0 +1,18 @@
+use borrow.Author.Needs.{needs}
+use Rattle.levels.proofs.numbers.turned_place.Statement.{statement}
+use Rattle.levels.proofs.numbers.turned_place.Tie as tie
+use Rattle.levels.proofs.numbers.turned_place.Reads as reads
+use Rattle.levels.proofs.numbers.turned_place.Lts as lts
+use Rattle.levels.proofs.numbers.from_end.Reads as from-end-reads
+
+from-end-requires : tie.Need-from-end-requires
+from-end-requires c κs = search needs
+
+returns : tie.Need-returns
+returns c = search needs
+
+returns-2 : tie.Need-returns-2
+returns-2 c = ?
+
+pub turned-place-spec : {M : Type 1} → statement M
+turned-place-spec = tie.close (tie.spec from-end-requires returns returns-2)

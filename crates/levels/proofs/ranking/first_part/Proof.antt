@@ -1,0 +1,22 @@
+use borrow.Author.Needs.{needs}
+use Rattle.levels.proofs.ranking.first_part.Statement.{statement}
+use Rattle.levels.proofs.ranking.first_part.Tie as tie
+use Rattle.levels.proofs.ranking.first_part.Reads as reads
+use Rattle.levels.proofs.ranking.first_part.Lts as lts
+use Rattle.levels.proofs.ranking.comes_first.Reads as comes-first-reads
+use Rattle.levels.proofs.ranking.other_part.Reads as other-part-reads
+
+comes-first-requires : tie.Need-comes-first-requires
+comes-first-requires c κs = search needs
+
+returns : tie.Need-returns
+returns c = ?
+
+other-part-requires : tie.Need-other-part-requires
+other-part-requires c κs = search needs
+
+returns-2 : tie.Need-returns-2
+returns-2 c = ?
+
+pub first-part-spec : {M : Type 1} → statement M
+first-part-spec = tie.close (tie.spec comes-first-requires returns other-part-requires returns-2)
