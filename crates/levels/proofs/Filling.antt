@@ -21,11 +21,6 @@ unfolding tabulate
 tabulate-more zero g = refl
 tabulate-more (suc n) g = ap (λ (p : List ℕ). g 1 ∷ p) (tabulate-more n (λ j. g (suc j)))
 
--- before the first turn
-pub tabulate-none : (u : List ℕ) (g : ℕ → ℕ) → take 0 u ≡ tabulate 0 g
-unfolding tabulate
-tabulate-none u g = refl
-
 -- the entry of jack j + 1 is stored at index j
 pub tabulate-stored : (g : ℕ → ℕ) (u : List ℕ) (j v : ℕ) → j < length u → take j u ≡ tabulate j g → v ≡ g (j + 1)
     → take (j + 1) (set u j v) ≡ tabulate (j + 1) g

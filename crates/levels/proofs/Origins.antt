@@ -2,19 +2,22 @@
 -- Assumes nothing.
 use mathlib.Core.Path.{_≡_, refl, sym, ap, _∙_, subst}
 use mathlib.Core.Logic.{_≢_}
+use mathlib.Core.List.{List}
 use Prim.Native.Nat.{ℕ, zero, suc, _+_, _-_, _/_, _%_, _≤_, _<_}
 use native.Mathlib.Nat.{mod-lt, not-suc-le-zero}
 use native.Mathlib.Numerals.{add-one}
 use native.Mathlib.Omega.{arith}
+use lib.ListN.{take}
 use borrow.Author.Tests.{lt-ltb, le-ltb}
 use Rattle.listing.specs.Numbers.{Among, before, odd}
+use Rattle.listing.specs.Pattern.{entry}
 use Rattle.listing.specs.Count.{count}
 use Rattle.listing.specs.Steps.{stepA, stepB}
-use Rattle.listing.specs.Listing.{at}
+use Rattle.listing.specs.Listing.{listing, at}
 use Rattle.listing.specs.Rank.{fromEnd, perBlock, turned, unrank}
 use Rattle.listing.proofs.Numbers.{either, below?}
 use Rattle.listing.proofs.Places.{turned-below}
-use Rattle.listing.proofs.Ranks.{perBlock-pos, block-among}
+use Rattle.listing.proofs.Ranks.{perBlock-pos, block-among, at-derangement}
 use Rattle.listing.proofs.Unranks.{unrank-at}
 use Rattle.levels.specs.Levels.{originIn, originOf}
 use Rattle.levels.specs.declared.types.Origin.{Origin}
@@ -30,7 +33,7 @@ two-ports (suc (suc m)) r h l = omega arith
 
 -- ---- the numbers that the code computes
 
-module _ (n r size : ℕ) (h : 2 ≤ n) (l : r < count n) (e : size ≡ perBlock n) where
+module _ {n r size : ℕ} (h : 2 ≤ n) (l : r < count n) (e : size ≡ perBlock n) where
   -- a block has a pattern
   pub size-some : 0 < size
   size-some = rw e (some n h l) where
@@ -47,7 +50,7 @@ module _ (n r size : ℕ) (h : 2 ≤ n) (l : r < count n) (e : size ≡ perBlock
     fewer (suc zero) a b = absurd (omega arith)
     fewer (suc (suc m)) a b = omega (arith, block-among m r b)
 
-  module _ (u : ℕ) (t : u ≡ turned (odd (r / size + 1)) size (r % size)) where
+  module _ {u : ℕ} (t : u ≡ turned (odd (r / size + 1)) size (r % size)) where
     -- the place in the block is in the block
     pub place-inside : u < size
     place-inside = rw t (turned-below (odd (r / size + 1)) size (r % size) (mod-lt r size-some))
@@ -88,21 +91,34 @@ makes-B m r i s fits l b e =
     let a′ : suc (suc m) - 2 ≡ m = omega arith in
     rw (a, a′) (fits, b, ap (stepB (suc (suc m)) i) (sym (unrank-at m s b)) ∙ e ∙ unrank-at (suc (suc m)) r l)
 
--- the origin of a rank makes its pattern
-pub origin-makes : (n r : ℕ) → 2 ≤ n → r < count n → (o : Origin) → o ≡ originOf n r → Makes n r o
+makes : (n r : ℕ) → 2 ≤ n → r < count n → Makes n r (originOf n r)
 unfolding originOf unrank
-origin-makes zero r h l o e = absurd (omega arith)
-origin-makes (suc zero) r h l o e = absurd (omega arith)
-origin-makes (suc (suc m)) r h l o e =
+makes zero r h l = absurd (omega arith)
+makes (suc zero) r h l = absurd (omega arith)
+makes (suc (suc m)) r h l =
     let n = suc (suc m) in
     let size = perBlock n in
     let i = suc (r / size) in
     let u = turned (odd i) size (r % size) in
     let inside : u < size = turned-below (odd i) size (r % size) (mod-lt r (perBlock-pos m r l)) in
-    subst (Makes n r) (sym e)
-    (either (below? u (count (suc m)))
+    either (below? u (count (suc m)))
     (λ b. let t = lt-ltb u (count (suc m)) b in rw t (makes-A m r i u l b (rw t)))
     (λ b.
     let t = le-ltb u (count (suc m)) b in
     let s = fromEnd (count m) (u - count (suc m)) in
-    rw t (makes-B m r i s (block-among m r l) l (omega arith) (rw t))))
+    rw t (makes-B m r i s (block-among m r l) l (omega arith) (rw t)))
+
+-- the origin of a rank makes its pattern
+pub origin-makes : {n r : ℕ} {o o′ : Origin} → n ≢ 0 → r < count n → o ≡ originOf n r → o ≡ o′ → Makes n r o′
+origin-makes {n = n} {r = r} h l e e′ = subst (Makes n r) (sym e ∙ e′) (makes n r (two-ports n r h l) l)
+
+-- ---- what the recursion asks of the list
+
+-- the pattern with no ports is the front of any array
+pub none-at : (n r : ℕ) (t : List ℕ) → n ≡ 0 → r < count n → take n t ≡ at n r
+unfolding count at listing
+none-at n r t e h = let h′ = rw e at h in let z : r ≡ 0 = omega arith in rw (e, z)
+
+-- the ports of the pattern of a rank are at most as many as there are ports
+pub at-within : (n r m : ℕ) (t : List ℕ) → n ≤ m → r < count n → t ≡ at n r → (k : ℕ) → Among n k → entry t k ≤ m
+at-within n r m t l h e k a = rw e (omega (arith, at-derangement n r h .permutation .ports k a))

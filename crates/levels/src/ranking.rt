@@ -90,7 +90,7 @@ pub fn passed_over(forward: bool, n: u8, c: Came) -> u64
 
 // One level of the place of p in the list, read forward or backward.
 fn level(forward: bool, p: [u8; 20], n: u8) -> Level
-    requires { ⌜ (1 ≤ n) × (n ≤ mostPorts) × Derangement n (take n p) ⌝ }
+    requires { ⌜ (2 ≤ n) × (n ≤ mostPorts) × Derangement n (take n p) ⌝ }
     ensures { λ r. ⌜ LevelOf forward n (take n p) r ⌝ }
 {
     let c = came(p, n);

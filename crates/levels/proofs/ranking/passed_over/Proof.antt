@@ -1,4 +1,12 @@
+-- `levels::ranking::passed_over` meets its contract: the blocks before, and the first part before the second; no more than the list has.
+-- Assumes nothing.
+use mathlib.Core.Path.{refl, ap, _∙_}
+use native.Mathlib.Omega.{arith}
 use borrow.Author.Needs.{needs}
+use Rattle.listing.specs.Reading.{passed}
+use Rattle.listing.proofs.Limits.{count-most}
+use Rattle.levels.specs.Levels.{wayOf}
+use Rattle.levels.proofs.Passing.{passed-inside}
 use Rattle.levels.proofs.ranking.passed_over.Statement.{statement}
 use Rattle.levels.proofs.ranking.passed_over.Tie as tie
 use Rattle.levels.proofs.ranking.passed_over.Reads as reads
@@ -21,16 +29,26 @@ block-size-requires : tie.Need-block-size-requires
 block-size-requires c κs = search needs
 
 mul-result : tie.Need-mul-result
-mul-result c = ?
+mul-result c = 
+    let s = c .before .before .before in
+    let k = rw (c .before .before .block-of .ensures) at (c .before .blocks-before .ensures) in
+    omega (arith, passed-inside (s .args .forward) (wayOf (s .args .c)) (s .pre .0) (s .pre .2) k (c .block-size .ensures) refl, count-most (s .args .n) (s .pre .1))
 
 first-part-requires : tie.Need-first-part-requires
 first-part-requires c κs = search needs
 
 add-result : tie.Need-add-result
-add-result c = ?
+add-result c = 
+    let b = c .before .before in
+    let s = b .before .before in
+    let k = rw (b .before .block-of .ensures) at (b .blocks-before .ensures) in
+    omega (arith, passed-inside (s .args .forward) (wayOf (s .args .c)) (s .pre .0) (s .pre .2) k (c .before .block-size .ensures) (c .first-part .ensures), count-most (s .args .n) (s .pre .1))
 
 returns : tie.Need-returns
-returns c = ?
+unfolding passed
+returns c = 
+    let b = c .before .before in
+    rw (c .before .block-size .ensures, c .first-part .ensures, b .blocks-before .ensures, b .before .block-of .ensures)
 
 pub passed-over-spec : {M : Type 1} → statement M
 passed-over-spec =

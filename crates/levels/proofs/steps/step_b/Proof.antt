@@ -8,7 +8,7 @@ use lib.ListN.{length, take, length-set}
 use Rattle.listing.specs.Pattern.{tabulate}
 use Rattle.listing.specs.Steps.{stepB}
 use Rattle.levels.specs.Entries.{byStepB}
-use Rattle.levels.proofs.Filling.{tabulate-none, tabulate-stored}
+use Rattle.levels.proofs.Filling.{tabulate-stored}
 use Rattle.levels.proofs.steps.step_b.Statement.{statement}
 use Rattle.levels.proofs.steps.step_b.Tie as tie
 use Rattle.levels.proofs.steps.step_b.Reads as reads
@@ -22,7 +22,8 @@ abbrev μ-loop : tie.MeasureT-loop
 μ-loop t n i u₀ j₀ u j = n - j
 
 loop-holds : tie.Need-loop-holds Inv-loop μ-loop
-loop-holds c = (search needs, refl, tabulate-none _ _)
+unfolding tabulate
+loop-holds c = (search needs, refl, refl)
 
 cast-at : tie.Need-cast-at Inv-loop μ-loop
 cast-at c = search needs
@@ -43,7 +44,9 @@ loop-less : tie.Need-loop-less Inv-loop μ-loop
 loop-less c = search needs
 
 loop-again : tie.Need-loop-again Inv-loop μ-loop
-loop-again c = let l = c .before .before in (search needs, search needs, tabulate-stored _ (l .loop .u) (l .loop .j) _ (omega arith) (l .loop .inv .2) (c .port-by-b .ensures))
+loop-again c = 
+    let l = c .before .before in
+    (search needs, search needs, tabulate-stored _ (l .loop .u) (l .loop .j) _ (omega arith) (l .loop .inv .2) (c .port-by-b .ensures))
 
 returns : tie.Need-returns Inv-loop μ-loop
 unfolding stepB

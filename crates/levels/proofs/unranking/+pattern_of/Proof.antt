@@ -1,192 +1,105 @@
-use Prim.Native.Nat.{ℕ, _<_}
+-- `levels::unranking::pattern_of` meets its contract: the step that the origin names makes the pattern from the shorter one. The ports fall at each call.
+-- Assumes nothing.
+use mathlib.Core.Path.{sym, ap, _∙_}
+use mathlib.Core.List.{List}
+use Prim.Native.Nat.{ℕ, _-_, _≤_, _<_}
+use native.Mathlib.Omega.{arith}
+use borrow.Author.Needs.{needs}
 use borrow.Fn.Kinds.{In}
 use borrow.Fn.PlainCycle.{Measures, is, falls, and}
+use Rattle.listing.specs.Steps.{stepA, stepB}
+use Rattle.levels.specs.declared.types.Origin.the-variants.{ByA, ByB}
+use Rattle.levels.proofs.Origins.{two-ports, none-at, origin-makes, at-within}
 use Rattle.levels.proofs.unranking.pattern_of.Reads as pattern-of
 use Rattle.levels.proofs.unranking.pattern_of.Kinds as pattern-of-kinds
-use Rattle.levels.proofs.unranking.+pattern_of.Lts-pattern_of as pattern-of-lts
-use Rattle.levels.proofs.steps.step_a.Reads as step-a-reads
-use Rattle.levels.proofs.steps.step_b.Reads as step-b-reads
-use Rattle.levels.proofs.unranking.origin.Reads as origin-reads
+use Rattle.levels.proofs.unranking.+pattern_of.Lts-pattern_of as lts
+use Rattle.levels.proofs.steps.step_a.Reads as step-a
+use Rattle.levels.proofs.steps.step_b.Reads as step-b
+use Rattle.levels.proofs.unranking.origin.Reads as origin
 use Rattle.levels.proofs.unranking.+pattern_of.{statement}
 use Rattle.levels.proofs.unranking.+pattern_of.Tie.{close}
 
-abbrev μ-pattern-of : Measures 0 pattern-of-kinds.ps ℕ
-μ-pattern-of κs a = ?
+-- the measure: the ports
+abbrev ports : Measures 0 pattern-of-kinds.ps ℕ
+ports κs a = a .0
 
-abbrev pattern-of-at : ℕ → In 0 pattern-of-kinds.ps
-pattern-of-at t =
-    and 0 pattern-of-kinds.ps (is 0 pattern-of-kinds.ps μ-pattern-of t) pattern-of.Pre
+abbrev here : ℕ → In 0 pattern-of-kinds.ps
+here t = and 0 pattern-of-kinds.ps (is 0 pattern-of-kinds.ps ports t) pattern-of.Pre
 
-abbrev pattern-of-below : ℕ → In 0 pattern-of-kinds.ps
-pattern-of-below t =
-    and 0 pattern-of-kinds.ps (falls 0 pattern-of-kinds.ps _<_ μ-pattern-of t) pattern-of.Pre
+abbrev fewer : ℕ → In 0 pattern-of-kinds.ps
+fewer t = and 0 pattern-of-kinds.ps (falls 0 pattern-of-kinds.ps _<_ ports t) pattern-of.Pre
 
-pattern-of-returns : (t : ℕ) → pattern-of-lts.Need-returns (
-  origin-reads.Asked,
-  origin-reads.Learnt,
-  pattern-of-below t,
-  pattern-of.Post,
-  step-a-reads.Asked,
-  step-a-reads.Learnt,
-  step-b-reads.Asked,
-  step-b-reads.Learnt,
-) (pattern-of-at t) pattern-of.Post
-pattern-of-returns t c = ?
+-- what the calls ask and tell
+abbrev calls : ℕ → lts.Claims
+calls t = (origin.Asked, origin.Learnt, fewer t, pattern-of.Post, step-a.Asked, step-a.Learnt, step-b.Asked, step-b.Learnt)
 
-pattern-of-origin-requires : (t : ℕ) → pattern-of-lts.Need-origin-requires (
-  origin-reads.Asked,
-  origin-reads.Learnt,
-  pattern-of-below t,
-  pattern-of.Post,
-  step-a-reads.Asked,
-  step-a-reads.Learnt,
-  step-b-reads.Asked,
-  step-b-reads.Learnt,
-) (pattern-of-at t) pattern-of.Post
-pattern-of-origin-requires t c κs = ?
+returns : (t : ℕ) → lts.Need-returns (calls t) (here t) pattern-of.Post
+returns t c = none-at (c .before .args .n) (c .before .args .rank) _ (c .if1 .taken) (c .before .pre .1 .1)
 
-pattern-of-enum-known-i : (t : ℕ) → pattern-of-lts.Need-enum-known-i (
-  origin-reads.Asked,
-  origin-reads.Learnt,
-  pattern-of-below t,
-  pattern-of.Post,
-  step-a-reads.Asked,
-  step-a-reads.Learnt,
-  step-b-reads.Asked,
-  step-b-reads.Learnt,
-) (pattern-of-at t) pattern-of.Post
-pattern-of-enum-known-i t c = ?
+origin-requires : (t : ℕ) → lts.Need-origin-requires (calls t) (here t) pattern-of.Post
+origin-requires t c κs = let s = c .before in (two-ports (s .args .n) (s .args .rank) (c .if1 .left) (s .pre .1 .1), search needs, search needs)
 
-pattern-of-sub-pattern-of : (t : ℕ) → pattern-of-lts.Need-sub-pattern-of (
-  origin-reads.Asked,
-  origin-reads.Learnt,
-  pattern-of-below t,
-  pattern-of.Post,
-  step-a-reads.Asked,
-  step-a-reads.Learnt,
-  step-b-reads.Asked,
-  step-b-reads.Learnt,
-) (pattern-of-at t) pattern-of.Post
-pattern-of-sub-pattern-of t c = ?
+enum-known-i : (t : ℕ) → lts.Need-enum-known-i (calls t) (here t) pattern-of.Post
+enum-known-i t c = search needs
 
-pattern-of-pattern-of-requires : (t : ℕ) → pattern-of-lts.Need-pattern-of-requires (
-  origin-reads.Asked,
-  origin-reads.Learnt,
-  pattern-of-below t,
-  pattern-of.Post,
-  step-a-reads.Asked,
-  step-a-reads.Learnt,
-  step-b-reads.Asked,
-  step-b-reads.Learnt,
-) (pattern-of-at t) pattern-of.Post
-pattern-of-pattern-of-requires t c κs = ?
+sub-pattern-of : (t : ℕ) → lts.Need-sub-pattern-of (calls t) (here t) pattern-of.Post
+sub-pattern-of t c = search needs
 
-pattern-of-step-a-requires : (t : ℕ) → pattern-of-lts.Need-step-a-requires (
-  origin-reads.Asked,
-  origin-reads.Learnt,
-  pattern-of-below t,
-  pattern-of.Post,
-  step-a-reads.Asked,
-  step-a-reads.Learnt,
-  step-b-reads.Asked,
-  step-b-reads.Learnt,
-) (pattern-of-at t) pattern-of.Post
-pattern-of-step-a-requires t c κs = ?
+pattern-of-requires : (t : ℕ) → lts.Need-pattern-of-requires (calls t) (here t) pattern-of.Post
+pattern-of-requires t c κs = 
+    let i = c .before in
+    let o = i .before .before in
+    let s = o .before .before in
+    let made = origin-makes (o .before .if1 .left) (s .pre .1 .1) (o .origin .ensures) (i .i .given .1) in
+    (omega arith, (omega arith, made .0))
 
-pattern-of-enum-known-i-2 : (t : ℕ) → pattern-of-lts.Need-enum-known-i-2 (
-  origin-reads.Asked,
-  origin-reads.Learnt,
-  pattern-of-below t,
-  pattern-of.Post,
-  step-a-reads.Asked,
-  step-a-reads.Learnt,
-  step-b-reads.Asked,
-  step-b-reads.Learnt,
-) (pattern-of-at t) pattern-of.Post
-pattern-of-enum-known-i-2 t c = ?
+step-a-requires : (t : ℕ) → lts.Need-step-a-requires (calls t) (here t) pattern-of.Post
+step-a-requires t c κs = search needs
 
-pattern-of-sub-pattern-of-2 : (t : ℕ) → pattern-of-lts.Need-sub-pattern-of-2 (
-  origin-reads.Asked,
-  origin-reads.Learnt,
-  pattern-of-below t,
-  pattern-of.Post,
-  step-a-reads.Asked,
-  step-a-reads.Learnt,
-  step-b-reads.Asked,
-  step-b-reads.Learnt,
-) (pattern-of-at t) pattern-of.Post
-pattern-of-sub-pattern-of-2 t c = ?
+enum-known-i-2 : (t : ℕ) → lts.Need-enum-known-i-2 (calls t) (here t) pattern-of.Post
+enum-known-i-2 t c = search needs
 
-pattern-of-pattern-of-requires-2 : (t : ℕ) → pattern-of-lts.Need-pattern-of-requires-2 (
-  origin-reads.Asked,
-  origin-reads.Learnt,
-  pattern-of-below t,
-  pattern-of.Post,
-  step-a-reads.Asked,
-  step-a-reads.Learnt,
-  step-b-reads.Asked,
-  step-b-reads.Learnt,
-) (pattern-of-at t) pattern-of.Post
-pattern-of-pattern-of-requires-2 t c κs = ?
+sub-pattern-of-2 : (t : ℕ) → lts.Need-sub-pattern-of-2 (calls t) (here t) pattern-of.Post
+sub-pattern-of-2 t c = 
+    let o = c .before .before .before in
+    two-ports (o .before .before .args .n) (o .before .before .args .rank) (o .before .if1 .left) (o .before .before .pre .1 .1)
 
-pattern-of-step-b-requires : (t : ℕ) → pattern-of-lts.Need-step-b-requires (
-  origin-reads.Asked,
-  origin-reads.Learnt,
-  pattern-of-below t,
-  pattern-of.Post,
-  step-a-reads.Asked,
-  step-a-reads.Learnt,
-  step-b-reads.Asked,
-  step-b-reads.Learnt,
-) (pattern-of-at t) pattern-of.Post
-pattern-of-step-b-requires t c κs = ?
+pattern-of-requires-2 : (t : ℕ) → lts.Need-pattern-of-requires-2 (calls t) (here t) pattern-of.Post
+pattern-of-requires-2 t c κs = 
+    let i = c .before in
+    let o = i .before .before in
+    let s = o .before .before in
+    let made = origin-makes (o .before .if1 .left) (s .pre .1 .1) (o .origin .ensures) (i .i2 .given .1) in
+    (omega arith, (omega arith, made .1))
 
-pattern-of-returns-2 : (t : ℕ) → pattern-of-lts.Need-returns-2 (
-  origin-reads.Asked,
-  origin-reads.Learnt,
-  pattern-of-below t,
-  pattern-of.Post,
-  step-a-reads.Asked,
-  step-a-reads.Learnt,
-  step-b-reads.Asked,
-  step-b-reads.Learnt,
-) (pattern-of-at t) pattern-of.Post
-pattern-of-returns-2 t c = ?
+step-b-requires : (t : ℕ) → lts.Need-step-b-requires (calls t) (here t) pattern-of.Post
+step-b-requires t c κs = 
+    let i = c .before .before in
+    let o = i .before .before in
+    let s = o .before .before in
+    let made = origin-makes (o .before .if1 .left) (s .pre .1 .1) (o .origin .ensures) (i .i2 .given .1) in
+    let two = two-ports (s .args .n) (s .args .rank) (o .before .if1 .left) (s .pre .1 .1) in
+    (two, omega arith, made .0, at-within (s .args .n - 2) _ 20 _ (omega arith) (made .1) (c .pattern-of2 .ensures))
 
-pattern-of-returns-3 : (t : ℕ) → pattern-of-lts.Need-returns-3 (
-  origin-reads.Asked,
-  origin-reads.Learnt,
-  pattern-of-below t,
-  pattern-of.Post,
-  step-a-reads.Asked,
-  step-a-reads.Learnt,
-  step-b-reads.Asked,
-  step-b-reads.Learnt,
-) (pattern-of-at t) pattern-of.Post
-pattern-of-returns-3 t c = ?
+returns-2 : (t : ℕ) → lts.Need-returns-2 (calls t) (here t) pattern-of.Post
+returns-2 t c = 
+    let i = c .before .before .before in
+    let o = i .before .before in
+    let s = o .before .before in
+    let made = origin-makes (o .before .if1 .left) (s .pre .1 .1) (o .origin .ensures) (i .i .given .1) in
+    c .step-a .ensures ∙ ap (stepA (s .args .n) (i .i .given .0 .0)) (c .before .pattern-of .ensures) ∙ made .1
+
+returns-3 : (t : ℕ) → lts.Need-returns-3 (calls t) (here t) pattern-of.Post
+returns-3 t c = 
+    let i = c .before .before .before in
+    let o = i .before .before in
+    let s = o .before .before in
+    let made = origin-makes (o .before .if1 .left) (s .pre .1 .1) (o .origin .ensures) (i .i2 .given .1) in
+    c .step-b .ensures ∙ ap (stepB (s .args .n) (i .i2 .given .0 .0)) (c .before .pattern-of2 .ensures) ∙ made .2
 
 pub +pattern-of-spec : {M : Type 1} → statement M
-+pattern-of-spec = close μ-pattern-of λ t. pattern-of-lts.spec (
-  origin-reads.Asked,
-  origin-reads.Learnt,
-  pattern-of-below t,
-  pattern-of.Post,
-  step-a-reads.Asked,
-  step-a-reads.Learnt,
-  step-b-reads.Asked,
-  step-b-reads.Learnt,
-)
-    (pattern-of-at t)
-    pattern-of.Post
-    (pattern-of-returns t)
-    (pattern-of-origin-requires t)
-    (pattern-of-enum-known-i t)
-    (pattern-of-sub-pattern-of t)
-    (pattern-of-pattern-of-requires t)
-    (pattern-of-step-a-requires t)
-    (pattern-of-enum-known-i-2 t)
-    (pattern-of-sub-pattern-of-2 t)
-    (pattern-of-pattern-of-requires-2 t)
-    (pattern-of-step-b-requires t)
-    (pattern-of-returns-2 t)
-    (pattern-of-returns-3 t)
++pattern-of-spec =
+    close ports
+    (λ t.
+    lts.spec (calls t) (here t) pattern-of.Post (returns t) (origin-requires t) (enum-known-i t) (sub-pattern-of t) (pattern-of-requires t) (step-a-requires t)
+    (enum-known-i-2 t) (sub-pattern-of-2 t) (pattern-of-requires-2 t) (step-b-requires t) (returns-2 t) (returns-3 t))
