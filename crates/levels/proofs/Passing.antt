@@ -30,14 +30,14 @@ use Rattle.levels.specs.declared.types.Came.the-variants.{ByA, ByB}
 -- ---- the step that a pattern came by
 
 -- by B if jack i holds n
-pub came-B : (n i x : ℕ) (p : List ℕ) → i ≡ entry p n → x ≡ entry p i → x ≡ n → ByB i ≡ cameOf (way n p) (entry p n)
+pub came-B : {n i x : ℕ} (p : List ℕ) → i ≡ entry p n → x ≡ entry p i → x ≡ n → ByB i ≡ cameOf (way n p) (entry p n)
 unfolding way
-came-B n i x p e f h = rw (← e, ← f, eq-eqb x n h)
+came-B {n = n} {x = x} p e f h = rw (← e, ← f, eq-eqb x n h)
 
 -- else by A
-pub came-A : (n i x : ℕ) (p : List ℕ) → i ≡ entry p n → x ≡ entry p i → x ≢ n → ByA i ≡ cameOf (way n p) (entry p n)
+pub came-A : {n i x : ℕ} (p : List ℕ) → i ≡ entry p n → x ≡ entry p i → x ≢ n → ByA i ≡ cameOf (way n p) (entry p n)
 unfolding way
-came-A n i x p e f h = rw (← e, ← f, ne-eqb x n h)
+came-A {n = n} {x = x} p e f h = rw (← e, ← f, ne-eqb x n h)
 
 -- which step it was, and the entry at the last jack
 way-came : (c : Came) (w : Way) (i : ℕ) → c ≡ cameOf w i → w ≡ wayOf c
@@ -99,8 +99,8 @@ part-inside false byA n = omega arith
 part-inside false byB n = omega arith
 
 -- what is passed over is no more than the list
-pub passed-inside : (forward : Bool) (w : Way) {n i k size part : ℕ} → 2 ≤ n → Among (n - 1) i → k ≡ cond forward (before i) (n - suc i) → size ≡ perBlock n
-    → part ≡ cond (comesFirst forward w i) 0 (count (shorter (other w) n)) → k * size + part ≤ count n
+pub passed-inside : (forward : Bool) (w : Way) {n i k size part : ℕ} → 2 ≤ n → Among (n - 1) i
+    → k ≡ cond forward (before i) (n - suc i) → size ≡ perBlock n → part ≡ cond (comesFirst forward w i) 0 (count (shorter (other w) n)) → k * size + part ≤ count n
 passed-inside forward w {n = n} {i = i} h fits ek es ep =
     rw (ek, es)
     (omega (arith, blocks-inside n (cond forward (before i) (n - suc i)) h (blocks-fewer forward n i fits), part-inside (comesFirst forward w i) w n))

@@ -9,9 +9,6 @@ use Rattle.listing.proofs.Limits.{count-most}
 use Rattle.levels.proofs.Less.{less-one, less-two}
 use Rattle.levels.proofs.counts.block_size.Statement.{statement}
 use Rattle.levels.proofs.counts.block_size.Tie as tie
-use Rattle.levels.proofs.counts.block_size.Reads as reads
-use Rattle.levels.proofs.counts.block_size.Lts as lts
-use Rattle.levels.proofs.counts.count_of.Reads as count-of-reads
 
 sub-count-of : tie.Need-sub-count-of
 sub-count-of c = search needs

@@ -4,8 +4,6 @@ use borrow.Author.Needs.{needs}
 use Rattle.levels.proofs.CountTable.{count-at}
 use Rattle.levels.proofs.counts.count_of.Statement.{statement}
 use Rattle.levels.proofs.counts.count_of.Tie as tie
-use Rattle.levels.proofs.counts.count_of.Reads as reads
-use Rattle.levels.proofs.counts.count_of.Lts as lts
 
 mul-result : tie.Need-mul-result
 mul-result c = search needs

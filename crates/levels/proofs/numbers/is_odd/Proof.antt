@@ -1,12 +1,9 @@
 -- `levels::numbers::is_odd` meets its contract: the parity that code tests.
 -- Assumes nothing.
 use mathlib.Core.Path.{sym}
-use borrow.Author.Needs.{needs}
 use Rattle.listing.proofs.Numbers.{odd-rest}
 use Rattle.levels.proofs.numbers.is_odd.Statement.{statement}
 use Rattle.levels.proofs.numbers.is_odd.Tie as tie
-use Rattle.levels.proofs.numbers.is_odd.Reads as reads
-use Rattle.levels.proofs.numbers.is_odd.Lts as lts
 
 returns : tie.Need-returns
 returns c = sym (odd-rest (c .args .i))

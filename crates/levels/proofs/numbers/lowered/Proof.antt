@@ -5,8 +5,6 @@ use borrow.Author.Needs.{needs}
 use Rattle.listing.proofs.Numbers.{either, lower-cases}
 use Rattle.levels.proofs.numbers.lowered.Statement.{statement}
 use Rattle.levels.proofs.numbers.lowered.Tie as tie
-use Rattle.levels.proofs.numbers.lowered.Reads as reads
-use Rattle.levels.proofs.numbers.lowered.Lts as lts
 
 sub-result : tie.Need-sub-result
 sub-result c = search needs

@@ -5,8 +5,6 @@ use borrow.Author.Needs.{needs}
 use Rattle.listing.proofs.Numbers.{raise-high, raise-low}
 use Rattle.levels.proofs.numbers.raised.Statement.{statement}
 use Rattle.levels.proofs.numbers.raised.Tie as tie
-use Rattle.levels.proofs.numbers.raised.Reads as reads
-use Rattle.levels.proofs.numbers.raised.Lts as lts
 
 add-result : tie.Need-add-result
 add-result c = search needs

@@ -1,13 +1,10 @@
 -- `levels::numbers::traded` meets its contract: the test is the definition's.
 -- Assumes nothing.
 use mathlib.Core.Path.{sym}
-use borrow.Author.Needs.{needs}
 use Rattle.listing.specs.Numbers.{trade}
 use Rattle.listing.proofs.Numbers.{is-same, is-other}
 use Rattle.levels.proofs.numbers.traded.Statement.{statement}
 use Rattle.levels.proofs.numbers.traded.Tie as tie
-use Rattle.levels.proofs.numbers.traded.Reads as reads
-use Rattle.levels.proofs.numbers.traded.Lts as lts
 
 returns : tie.Need-returns
 unfolding trade

@@ -1,12 +1,8 @@
 -- `levels::numbers::turned_place` meets its contract: by the two ways to read.
 -- Assumes nothing.
-use mathlib.Core.Path.{_∙_}
 use borrow.Author.Needs.{needs}
 use Rattle.levels.proofs.numbers.turned_place.Statement.{statement}
 use Rattle.levels.proofs.numbers.turned_place.Tie as tie
-use Rattle.levels.proofs.numbers.turned_place.Reads as reads
-use Rattle.levels.proofs.numbers.turned_place.Lts as lts
-use Rattle.levels.proofs.numbers.from_end.Reads as from-end-reads
 
 from-end-requires : tie.Need-from-end-requires
 from-end-requires c κs = search needs

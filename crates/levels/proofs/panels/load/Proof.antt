@@ -4,12 +4,10 @@ use mathlib.Core.Path.{_≡_, refl}
 use Prim.Native.Nat.{_≤_, _-_}
 use native.Mathlib.Omega.{arith}
 use borrow.Author.Needs.{needs}
-use lib.ListN.{length, take, length-set}
+use lib.ListN.{length, take}
 use Rattle.levels.proofs.Filling.{copy-stored, copy-front}
 use Rattle.levels.proofs.panels.load.Statement.{statement}
 use Rattle.levels.proofs.panels.load.Tie as tie
-use Rattle.levels.proofs.panels.load.Reads as reads
-use Rattle.levels.proofs.panels.load.Lts as lts
 
 abbrev Inv-loop : tie.InvT-loop
 Inv-loop p t₀ j₀ t j = (j ≤ length p) × (length t ≡ 20) × (take j t ≡ take j p)
@@ -33,7 +31,9 @@ loop-less : tie.Need-loop-less Inv-loop μ-loop
 loop-less c = search needs
 
 loop-again : tie.Need-loop-again Inv-loop μ-loop
-loop-again c = let l = c .before .before in (search needs, search needs, copy-stored _ (l .loop .t) (l .loop .j) (omega arith) (omega arith) (l .loop .inv .2))
+loop-again c = 
+    let l = c .before .before in
+    (search needs, search needs, copy-stored _ (l .loop .t) (l .loop .j) (omega arith) (omega arith) (l .loop .inv .2))
 
 returns : tie.Need-returns Inv-loop μ-loop
 returns c = let l = c .before in copy-front _ (l .loop .t) (l .loop .j) (omega arith) (l .loop .inv .2)

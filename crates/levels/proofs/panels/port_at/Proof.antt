@@ -4,8 +4,6 @@ use borrow.Author.Needs.{needs}
 use Rattle.levels.proofs.Filling.{entry-front}
 use Rattle.levels.proofs.panels.port_at.Statement.{statement}
 use Rattle.levels.proofs.panels.port_at.Tie as tie
-use Rattle.levels.proofs.panels.port_at.Reads as reads
-use Rattle.levels.proofs.panels.port_at.Lts as lts
 
 sub-at : tie.Need-sub-at
 sub-at c = search needs

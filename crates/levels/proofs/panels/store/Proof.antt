@@ -4,12 +4,10 @@ use mathlib.Core.Path.{_≡_, refl}
 use Prim.Native.Nat.{_≤_, _-_}
 use native.Mathlib.Omega.{arith}
 use borrow.Author.Needs.{needs}
-use lib.ListN.{length, take, length-set}
+use lib.ListN.{length, take}
 use Rattle.levels.proofs.Filling.{copy-stored, copy-all}
 use Rattle.levels.proofs.panels.store.Statement.{statement}
 use Rattle.levels.proofs.panels.store.Tie as tie
-use Rattle.levels.proofs.panels.store.Reads as reads
-use Rattle.levels.proofs.panels.store.Lts as lts
 
 abbrev Inv-loop : tie.InvT-loop
 Inv-loop out₀ t j₀ out j = (j ≤ length out₀) × (length out ≡ length out₀) × (take j out ≡ take j t)
@@ -33,7 +31,9 @@ loop-less : tie.Need-loop-less Inv-loop μ-loop
 loop-less c = search needs
 
 loop-again : tie.Need-loop-again Inv-loop μ-loop
-loop-again c = let l = c .before in (search needs, search needs, copy-stored (l .before .args .t1) (l .loop .out) (l .loop .j) (omega arith) (omega arith) (l .loop .inv .2))
+loop-again c = 
+    let l = c .before in
+    (search needs, search needs, copy-stored (l .before .args .t1) (l .loop .out) (l .loop .j) (omega arith) (omega arith) (l .loop .inv .2))
 
 same-length : tie.Need-same-length Inv-loop μ-loop
 same-length c = c .before .loop .inv .1

@@ -5,8 +5,6 @@ use borrow.Author.Needs.{needs}
 use Rattle.levels.proofs.Less.{less-one}
 use Rattle.levels.proofs.ranking.blocks_before.Statement.{statement}
 use Rattle.levels.proofs.ranking.blocks_before.Tie as tie
-use Rattle.levels.proofs.ranking.blocks_before.Reads as reads
-use Rattle.levels.proofs.ranking.blocks_before.Lts as lts
 
 sub-result : tie.Need-sub-result
 sub-result c = search needs

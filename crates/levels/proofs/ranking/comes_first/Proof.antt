@@ -5,9 +5,6 @@ use Rattle.listing.specs.Numbers.{odd}
 use Rattle.levels.proofs.Passing.{both-or-neither, one-of-two}
 use Rattle.levels.proofs.ranking.comes_first.Statement.{statement}
 use Rattle.levels.proofs.ranking.comes_first.Tie as tie
-use Rattle.levels.proofs.ranking.comes_first.Reads as reads
-use Rattle.levels.proofs.ranking.comes_first.Lts as lts
-use Rattle.levels.proofs.numbers.is_odd.Reads as is-odd-reads
 
 enum-known-c : tie.Need-enum-known-c
 enum-known-c c = search needs
@@ -22,10 +19,14 @@ is-odd-requires-2 : tie.Need-is-odd-requires-2
 is-odd-requires-2 c κs = search needs
 
 returns : tie.Need-returns
-returns c = let i = c .before .before .c .given in rw (i .1, c .is-odd .ensures) (both-or-neither (odd (i .0 .0)) (c .before .before .before .before .args .forward))
+returns c = 
+    let i = c .before .before .c .given in
+    rw (i .1, c .is-odd .ensures) (both-or-neither (odd (i .0 .0)) (c .before .before .before .before .args .forward))
 
 returns-2 : tie.Need-returns-2
-returns-2 c = let i = c .before .before .c2 .given in rw (i .1, c .is-odd2 .ensures) (one-of-two (odd (i .0 .0)) (c .before .before .before .before .args .forward))
+returns-2 c = 
+    let i = c .before .before .c2 .given in
+    rw (i .1, c .is-odd2 .ensures) (one-of-two (odd (i .0 .0)) (c .before .before .before .before .args .forward))
 
 pub comes-first-spec : {M : Type 1} → statement M
 comes-first-spec =

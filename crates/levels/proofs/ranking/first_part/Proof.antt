@@ -3,10 +3,6 @@
 use borrow.Author.Needs.{needs}
 use Rattle.levels.proofs.ranking.first_part.Statement.{statement}
 use Rattle.levels.proofs.ranking.first_part.Tie as tie
-use Rattle.levels.proofs.ranking.first_part.Reads as reads
-use Rattle.levels.proofs.ranking.first_part.Lts as lts
-use Rattle.levels.proofs.ranking.comes_first.Reads as comes-first-reads
-use Rattle.levels.proofs.ranking.other_part.Reads as other-part-reads
 
 comes-first-requires : tie.Need-comes-first-requires
 comes-first-requires c κs = search needs

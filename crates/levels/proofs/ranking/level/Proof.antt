@@ -8,13 +8,6 @@ use Rattle.levels.proofs.Less.{less-one, less-two}
 use Rattle.levels.proofs.Passing.{end-among, place-level}
 use Rattle.levels.proofs.ranking.level.Statement.{statement}
 use Rattle.levels.proofs.ranking.level.Tie as tie
-use Rattle.levels.proofs.ranking.level.Reads as reads
-use Rattle.levels.proofs.ranking.level.Lts as lts
-use Rattle.levels.proofs.ranking.came.Reads as came-reads
-use Rattle.levels.proofs.ranking.comes_first.Reads as comes-first-reads
-use Rattle.levels.proofs.ranking.passed_over.Reads as passed-over-reads
-use Rattle.levels.proofs.steps.back_a.Reads as back-a-reads
-use Rattle.levels.proofs.steps.back_b.Reads as back-b-reads
 
 came-requires : tie.Need-came-requires
 came-requires c κs = (c .pre .1, c .pre .2 .permutation .ports (c .args .n) (omega arith))

@@ -6,9 +6,6 @@ use Rattle.listing.specs.Count.{count}
 use Rattle.levels.proofs.Less.{less-one, less-two}
 use Rattle.levels.proofs.ranking.other_part.Statement.{statement}
 use Rattle.levels.proofs.ranking.other_part.Tie as tie
-use Rattle.levels.proofs.ranking.other_part.Reads as reads
-use Rattle.levels.proofs.ranking.other_part.Lts as lts
-use Rattle.levels.proofs.counts.count_of.Reads as count-of-reads
 
 enum-told : tie.Need-enum-told
 enum-told c = search needs

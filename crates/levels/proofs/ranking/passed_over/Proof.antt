@@ -1,6 +1,6 @@
 -- `levels::ranking::passed_over` meets its contract: the blocks before, and the first part before the second; no more than the list has.
 -- Assumes nothing.
-use mathlib.Core.Path.{refl, ap, _∙_}
+use mathlib.Core.Path.{refl}
 use native.Mathlib.Omega.{arith}
 use borrow.Author.Needs.{needs}
 use Rattle.listing.specs.Reading.{passed}
@@ -9,12 +9,6 @@ use Rattle.levels.specs.Levels.{wayOf}
 use Rattle.levels.proofs.Passing.{passed-inside}
 use Rattle.levels.proofs.ranking.passed_over.Statement.{statement}
 use Rattle.levels.proofs.ranking.passed_over.Tie as tie
-use Rattle.levels.proofs.ranking.passed_over.Reads as reads
-use Rattle.levels.proofs.ranking.passed_over.Lts as lts
-use Rattle.levels.proofs.counts.block_size.Reads as block-size-reads
-use Rattle.levels.proofs.ranking.block_of.Reads as block-of-reads
-use Rattle.levels.proofs.ranking.blocks_before.Reads as blocks-before-reads
-use Rattle.levels.proofs.ranking.first_part.Reads as first-part-reads
 
 block-of-requires : tie.Need-block-of-requires
 block-of-requires c κs = search needs
@@ -29,20 +23,22 @@ block-size-requires : tie.Need-block-size-requires
 block-size-requires c κs = search needs
 
 mul-result : tie.Need-mul-result
-mul-result c = 
+mul-result c =
     let s = c .before .before .before in
     let k = rw (c .before .before .block-of .ensures) at (c .before .blocks-before .ensures) in
-    omega (arith, passed-inside (s .args .forward) (wayOf (s .args .c)) (s .pre .0) (s .pre .2) k (c .block-size .ensures) refl, count-most (s .args .n) (s .pre .1))
+    let inside = passed-inside (s .args .forward) (wayOf (s .args .c)) (s .pre .0) (s .pre .2) k (c .block-size .ensures) refl in
+    omega (arith, count-most (s .args .n) (s .pre .1))
 
 first-part-requires : tie.Need-first-part-requires
 first-part-requires c κs = search needs
 
 add-result : tie.Need-add-result
-add-result c = 
+add-result c =
     let b = c .before .before in
     let s = b .before .before in
     let k = rw (b .before .block-of .ensures) at (b .blocks-before .ensures) in
-    omega (arith, passed-inside (s .args .forward) (wayOf (s .args .c)) (s .pre .0) (s .pre .2) k (c .before .block-size .ensures) (c .first-part .ensures), count-most (s .args .n) (s .pre .1))
+    let inside = passed-inside (s .args .forward) (wayOf (s .args .c)) (s .pre .0) (s .pre .2) k (c .before .block-size .ensures) (c .first-part .ensures) in
+    omega (arith, count-most (s .args .n) (s .pre .1))
 
 returns : tie.Need-returns
 unfolding passed

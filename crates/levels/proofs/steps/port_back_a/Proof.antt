@@ -1,14 +1,8 @@
 -- `levels::steps::port_back_a` meets its contract: the entry at jack n for n.
 -- Assumes nothing.
-use mathlib.Core.Path.{_∙_}
-use native.Mathlib.Omega.{arith}
 use borrow.Author.Needs.{needs}
 use Rattle.levels.proofs.steps.port_back_a.Statement.{statement}
 use Rattle.levels.proofs.steps.port_back_a.Tie as tie
-use Rattle.levels.proofs.steps.port_back_a.Reads as reads
-use Rattle.levels.proofs.steps.port_back_a.Lts as lts
-use Rattle.levels.proofs.panels.port_at.Reads as port-at-reads
-use Rattle.levels.proofs.numbers.traded.Reads as traded-reads
 
 port-at-requires : tie.Need-port-at-requires
 port-at-requires c κs = search needs

@@ -1,17 +1,11 @@
 -- `levels::steps::port_back_b` meets its contract: what p has at the raised jack, lowered.
 -- Assumes nothing.
-use mathlib.Core.Path.{_∙_}
 use Prim.Native.Nat.{_-_}
 use native.Mathlib.Omega.{arith}
 use borrow.Author.Needs.{needs}
 use Rattle.listing.proofs.Numbers.{raise-among}
 use Rattle.levels.proofs.steps.port_back_b.Statement.{statement}
 use Rattle.levels.proofs.steps.port_back_b.Tie as tie
-use Rattle.levels.proofs.steps.port_back_b.Reads as reads
-use Rattle.levels.proofs.steps.port_back_b.Lts as lts
-use Rattle.levels.proofs.panels.port_at.Reads as port-at-reads
-use Rattle.levels.proofs.numbers.lowered.Reads as lowered-reads
-use Rattle.levels.proofs.numbers.raised.Reads as raised-reads
 
 port-at-requires : tie.Need-port-at-requires
 port-at-requires c κs = search needs

@@ -6,10 +6,6 @@ use Rattle.listing.specs.Numbers.{trade}
 use Rattle.listing.proofs.Numbers.{is-same, is-other}
 use Rattle.levels.proofs.steps.port_by_a.Statement.{statement}
 use Rattle.levels.proofs.steps.port_by_a.Tie as tie
-use Rattle.levels.proofs.steps.port_by_a.Reads as reads
-use Rattle.levels.proofs.steps.port_by_a.Lts as lts
-use Rattle.levels.proofs.panels.port_at.Reads as port-at-reads
-use Rattle.levels.proofs.numbers.traded.Reads as traded-reads
 
 returns : tie.Need-returns
 returns c = let a = c .before .args in sym (is-same (a .j) (a .n) (a .i) _ (c .if1 .taken))

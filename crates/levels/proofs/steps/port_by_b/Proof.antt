@@ -10,11 +10,6 @@ use Rattle.listing.specs.Pattern.{entry}
 use Rattle.listing.proofs.Numbers.{is-same, is-other, lower-among}
 use Rattle.levels.proofs.steps.port_by_b.Statement.{statement}
 use Rattle.levels.proofs.steps.port_by_b.Tie as tie
-use Rattle.levels.proofs.steps.port_by_b.Reads as reads
-use Rattle.levels.proofs.steps.port_by_b.Lts as lts
-use Rattle.levels.proofs.panels.port_at.Reads as port-at-reads
-use Rattle.levels.proofs.numbers.lowered.Reads as lowered-reads
-use Rattle.levels.proofs.numbers.raised.Reads as raised-reads
 
 returns : tie.Need-returns
 returns c = let a = c .before .args in sym (is-same (a .j) (a .n) (a .i) _ (c .if1 .taken))

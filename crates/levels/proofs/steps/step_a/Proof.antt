@@ -1,19 +1,16 @@
 -- `levels::steps::step_a` meets its contract: each turn fills one jack more. The loop's invariant: the first j entries are the step's.
 -- Assumes nothing.
-use mathlib.Core.Path.{_≡_, refl, ap, _∙_}
-use Prim.Native.Nat.{ℕ, _≤_, _-_}
+use mathlib.Core.Path.{_≡_, refl}
+use Prim.Native.Nat.{_≤_, _-_}
 use native.Mathlib.Omega.{arith}
 use borrow.Author.Needs.{needs}
-use lib.ListN.{length, take, length-set}
+use lib.ListN.{length, take}
 use Rattle.listing.specs.Pattern.{tabulate}
 use Rattle.listing.specs.Steps.{stepA}
 use Rattle.levels.specs.Entries.{byStepA}
 use Rattle.levels.proofs.Filling.{tabulate-stored}
 use Rattle.levels.proofs.steps.step_a.Statement.{statement}
 use Rattle.levels.proofs.steps.step_a.Tie as tie
-use Rattle.levels.proofs.steps.step_a.Reads as reads
-use Rattle.levels.proofs.steps.step_a.Lts as lts
-use Rattle.levels.proofs.steps.port_by_a.Reads as port-by-a-reads
 
 abbrev Inv-loop : tie.InvT-loop
 Inv-loop t n i u₀ j₀ u j = (j ≤ n) × (length u ≡ 20) × (take j u ≡ tabulate j (byStepA n i (take (n - 1) t)))

@@ -1,14 +1,12 @@
 -- `levels::unranking::pattern_of` meets its contract: the step that the origin names makes the pattern from the shorter one. The ports fall at each call.
 -- Assumes nothing.
-use mathlib.Core.Path.{sym, ap, _∙_}
-use mathlib.Core.List.{List}
-use Prim.Native.Nat.{ℕ, _-_, _≤_, _<_}
+use mathlib.Core.Path.{ap, _∙_}
+use Prim.Native.Nat.{ℕ, _-_, _<_}
 use native.Mathlib.Omega.{arith}
 use borrow.Author.Needs.{needs}
 use borrow.Fn.Kinds.{In}
 use borrow.Fn.PlainCycle.{Measures, is, falls, and}
 use Rattle.listing.specs.Steps.{stepA, stepB}
-use Rattle.levels.specs.declared.types.Origin.the-variants.{ByA, ByB}
 use Rattle.levels.proofs.Origins.{two-ports, none-at, origin-makes, at-within}
 use Rattle.levels.proofs.unranking.pattern_of.Reads as pattern-of
 use Rattle.levels.proofs.unranking.pattern_of.Kinds as pattern-of-kinds

@@ -1,22 +1,11 @@
 -- `levels::unranking::origin` meets its contract: the numbers are those of the definition, and each is small enough.
 -- Assumes nothing.
-use mathlib.Core.Path.{ap, _∙_}
-use mathlib.Core.Bool.{Bool}
-use Prim.Native.Nat.{_%_}
 use native.Mathlib.Nat.{mod-lt}
 use native.Mathlib.Omega.{arith}
 use borrow.Author.Needs.{needs}
-use Rattle.listing.specs.Rank.{turned}
 use Rattle.levels.proofs.Origins.{size-some, blocks-fewer, place-inside, origin-A, origin-B}
 use Rattle.levels.proofs.unranking.origin.Statement.{statement}
 use Rattle.levels.proofs.unranking.origin.Tie as tie
-use Rattle.levels.proofs.unranking.origin.Reads as reads
-use Rattle.levels.proofs.unranking.origin.Lts as lts
-use Rattle.levels.proofs.counts.block_size.Reads as block-size-reads
-use Rattle.levels.proofs.counts.count_of.Reads as count-of-reads
-use Rattle.levels.proofs.numbers.from_end.Reads as from-end-reads
-use Rattle.levels.proofs.numbers.is_odd.Reads as is-odd-reads
-use Rattle.levels.proofs.numbers.turned_place.Reads as turned-place-reads
 
 block-size-requires : tie.Need-block-size-requires
 block-size-requires c κs = search needs
@@ -49,7 +38,8 @@ from-end-requires : tie.Need-from-end-requires
 from-end-requires c κs = 
     let b = c .before .before .before .before in
     let s = b .before in
-    place-inside (s .pre .0) (s .pre .2) (b .block-size .ensures) (rw (c .before .before .before .is-odd .ensures) at (c .before .before .turned-place .ensures))
+    let t = rw (c .before .before .before .is-odd .ensures) at (c .before .before .turned-place .ensures) in
+    place-inside (s .pre .0) (s .pre .2) (b .block-size .ensures) t
 
 returns : tie.Need-returns
 returns c = 
