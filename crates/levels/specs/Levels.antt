@@ -45,4 +45,4 @@ pub record LevelOf (forward : Bool) (n : ℕ) (p : List ℕ) (l : Level) : Type 
   pub fewer : l .ports < n
   pub pattern : Derangement (l .ports) (take (l .ports) (l .pattern))
   pub place : turned forward (count n) (rank n p)
-    ≡ l .passed + turned (l .forward) (count (l .ports)) (rank (l .ports) (take (l .ports) (l .pattern)))
+      ≡ l .passed + turned (l .forward) (count (l .ports)) (rank (l .ports) (take (l .ports) (l .pattern)))

@@ -1,8 +1,11 @@
-use crate::counts::{block_size, count_of};
+use crate::counts::block_size;
+use crate::counts::count_of;
 use crate::numbers::is_odd;
 use crate::panels::port_at;
-use crate::steps::{back_a, back_b};
-use crate::types::{Came, Level};
+use crate::steps::back_a;
+use crate::steps::back_b;
+use crate::types::Came;
+use crate::types::Level;
 ghost use mathlib.Core.Path.{_≡_};
 ghost use mathlib.Core.Bool.{Bool, true, false, cond};
 ghost use Prim.Native.Nat.{suc, _-_, _≤_};

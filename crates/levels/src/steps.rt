@@ -1,4 +1,6 @@
-use crate::numbers::{lowered, raised, traded};
+use crate::numbers::lowered;
+use crate::numbers::raised;
+use crate::numbers::traded;
 use crate::panels::port_at;
 ghost use mathlib.Core.Path.{_≡_};
 ghost use Prim.Native.Nat.{ℕ, _-_, _≤_};

@@ -1,6 +1,10 @@
-use crate::counts::{block_size, count_of};
-use crate::numbers::{from_end, is_odd, turned_place};
-use crate::steps::{step_a, step_b};
+use crate::counts::block_size;
+use crate::counts::count_of;
+use crate::numbers::from_end;
+use crate::numbers::is_odd;
+use crate::numbers::turned_place;
+use crate::steps::step_a;
+use crate::steps::step_b;
 use crate::types::Origin;
 ghost use mathlib.Core.Path.{_≡_};
 ghost use Prim.Native.Nat.{_≤_, _<_};

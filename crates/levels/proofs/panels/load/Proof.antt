@@ -31,7 +31,7 @@ loop-less : tie.Need-loop-less Inv-loop μ-loop
 loop-less c = search needs
 
 loop-again : tie.Need-loop-again Inv-loop μ-loop
-loop-again c = 
+loop-again c =
     let l = c .before .before in
     (search needs, search needs, copy-stored _ (l .loop .t) (l .loop .j) (omega arith) (omega arith) (l .loop .inv .2))
 

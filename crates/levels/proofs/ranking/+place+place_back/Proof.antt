@@ -51,13 +51,13 @@ place-place-requires : (t : ℕ) → place-lts.Need-place-requires (calls t) (he
 place-place-requires t c κs = let l = c .before .before .level .ensures in (omega arith, (omega arith, l .pattern))
 
 place-add-result : (t : ℕ) → place-lts.Need-add-result (calls t) (here t) place.Post
-place-add-result t c = 
+place-add-result t c =
     let f = c .before .before in
     let s = f .before .before .before .before in
     omega (arith, sum-fits true (level-sum (f .before .before .level .ensures) (f .if2 .taken) (c .before .place .ensures)) (s .pre .1 .0) (s .pre .1 .1))
 
 place-returns-2 : (t : ℕ) → place-lts.Need-returns-2 (calls t) (here t) place.Post
-place-returns-2 t c = 
+place-returns-2 t c =
     let f = c .before .before in
     level-sum (f .before .before .level .ensures) (f .if2 .taken) (c .before .place .ensures)
 
@@ -65,13 +65,13 @@ place-place-back-requires : (t : ℕ) → place-lts.Need-place-back-requires (ca
 place-place-back-requires t c κs = let l = c .before .before .level .ensures in (omega arith, (omega arith, l .pattern))
 
 place-add-result-2 : (t : ℕ) → place-lts.Need-add-result-2 (calls t) (here t) place.Post
-place-add-result-2 t c = 
+place-add-result-2 t c =
     let f = c .before .before in
     let s = f .before .before .before .before in
     omega (arith, sum-fits true (level-sum (f .before .before .level .ensures) (f .if2 .left) (c .before .place-back .ensures)) (s .pre .1 .0) (s .pre .1 .1))
 
 place-returns-3 : (t : ℕ) → place-lts.Need-returns-3 (calls t) (here t) place.Post
-place-returns-3 t c = 
+place-returns-3 t c =
     let f = c .before .before in
     level-sum (f .before .before .level .ensures) (f .if2 .left) (c .before .place-back .ensures)
 
@@ -87,13 +87,13 @@ place-back-place-requires : (t : ℕ) → place-back-lts.Need-place-requires (ca
 place-back-place-requires t c κs = let l = c .before .before .level .ensures in (omega arith, (omega arith, l .pattern))
 
 place-back-add-result : (t : ℕ) → place-back-lts.Need-add-result (calls t) (here-back t) place-back.Post
-place-back-add-result t c = 
+place-back-add-result t c =
     let f = c .before .before in
     let s = f .before .before .before .before in
     omega (arith, sum-fits false (level-sum (f .before .before .level .ensures) (f .if2 .taken) (c .before .place .ensures)) (s .pre .1 .0) (s .pre .1 .1))
 
 place-back-returns-2 : (t : ℕ) → place-back-lts.Need-returns-2 (calls t) (here-back t) place-back.Post
-place-back-returns-2 t c = 
+place-back-returns-2 t c =
     let f = c .before .before in
     level-sum (f .before .before .level .ensures) (f .if2 .taken) (c .before .place .ensures)
 
@@ -101,13 +101,13 @@ place-back-place-back-requires : (t : ℕ) → place-back-lts.Need-place-back-re
 place-back-place-back-requires t c κs = let l = c .before .before .level .ensures in (omega arith, (omega arith, l .pattern))
 
 place-back-add-result-2 : (t : ℕ) → place-back-lts.Need-add-result-2 (calls t) (here-back t) place-back.Post
-place-back-add-result-2 t c = 
+place-back-add-result-2 t c =
     let f = c .before .before in
     let s = f .before .before .before .before in
     omega (arith, sum-fits false (level-sum (f .before .before .level .ensures) (f .if2 .left) (c .before .place-back .ensures)) (s .pre .1 .0) (s .pre .1 .1))
 
 place-back-returns-3 : (t : ℕ) → place-back-lts.Need-returns-3 (calls t) (here-back t) place-back.Post
-place-back-returns-3 t c = 
+place-back-returns-3 t c =
     let f = c .before .before in
     level-sum (f .before .before .level .ensures) (f .if2 .left) (c .before .place-back .ensures)
 

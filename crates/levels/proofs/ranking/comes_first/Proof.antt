@@ -19,12 +19,12 @@ is-odd-requires-2 : tie.Need-is-odd-requires-2
 is-odd-requires-2 c κs = search needs
 
 returns : tie.Need-returns
-returns c = 
+returns c =
     let i = c .before .before .c .given in
     rw (i .1, c .is-odd .ensures) (both-or-neither (odd (i .0 .0)) (c .before .before .before .before .args .forward))
 
 returns-2 : tie.Need-returns-2
-returns-2 c = 
+returns-2 c =
     let i = c .before .before .c2 .given in
     rw (i .1, c .is-odd2 .ensures) (one-of-two (odd (i .0 .0)) (c .before .before .before .before .args .forward))
 

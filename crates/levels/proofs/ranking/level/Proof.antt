@@ -13,7 +13,7 @@ came-requires : tie.Need-came-requires
 came-requires c κs = (c .pre .1, c .pre .2 .permutation .ports (c .args .n) (omega arith))
 
 passed-over-requires : tie.Need-passed-over-requires
-passed-over-requires c κs = 
+passed-over-requires c κs =
     let s = c .before in
     (s .pre .0, s .pre .1, end-among (s .pre .0) (s .pre .2) (c .came .ensures))
 
@@ -39,25 +39,25 @@ back-b-requires : tie.Need-back-b-requires
 back-b-requires c κs = search needs
 
 returns : tie.Need-returns
-returns c = 
+returns c =
     let e = c .before .enum-told .given .1 in
     let f = c .before .before .before in
     let s = f .before .before .before in
     let n = s .args .n in
     let l =
-        place-level (s .args .forward) (n - 1) (take (n - 1) (c .back-a .result)) (s .pre .0) (s .pre .2) (f .before .before .came .ensures)
-        (f .before .passed-over .ensures) (f .comes-first .ensures) (rw e (less-one n)) (rw e (c .back-a .ensures)) in
+    place-level (s .args .forward) (n - 1) (take (n - 1) (c .back-a .result)) (s .pre .0) (s .pre .2) (f .before .before .came .ensures)
+    (f .before .passed-over .ensures) (f .comes-first .ensures) (rw e (less-one n)) (rw e (c .back-a .ensures)) in
     record { fewer = l .0; pattern = l .1; place = l .2 }
 
 returns-2 : tie.Need-returns-2
-returns-2 c = 
+returns-2 c =
     let e = c .before .enum-told2 .given .1 in
     let f = c .before .before .before in
     let s = f .before .before .before in
     let n = s .args .n in
     let l =
-        place-level (s .args .forward) (n - 2) (take (n - 2) (c .back-b .result)) (s .pre .0) (s .pre .2) (f .before .before .came .ensures)
-        (f .before .passed-over .ensures) (f .comes-first .ensures) (rw e (less-two n)) (rw e (c .back-b .ensures)) in
+    place-level (s .args .forward) (n - 2) (take (n - 2) (c .back-b .result)) (s .pre .0) (s .pre .2) (f .before .before .came .ensures)
+    (f .before .passed-over .ensures) (f .comes-first .ensures) (rw e (less-two n)) (rw e (c .back-b .ensures)) in
     record { fewer = l .0; pattern = l .1; place = l .2 }
 
 pub level-spec : {M : Type 1} → statement M

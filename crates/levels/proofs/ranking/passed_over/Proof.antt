@@ -42,7 +42,7 @@ add-result c =
 
 returns : tie.Need-returns
 unfolding passed
-returns c = 
+returns c =
     let b = c .before .before in
     rw (c .before .block-size .ensures, c .first-part .ensures, b .blocks-before .ensures, b .before .block-of .ensures)
 

@@ -46,13 +46,13 @@ loop-less : tie.Need-loop-less Inv-loop μ-loop
 loop-less c = search needs
 
 loop-again : tie.Need-loop-again Inv-loop μ-loop
-loop-again c = 
+loop-again c =
     let l = c .before .before in
     (search needs, search needs, tabulate-stored _ (l .loop .u) (l .loop .j) _ (omega arith) (l .loop .inv .2) (c .port-back-b .ensures))
 
 returns : tie.Need-returns Inv-loop μ-loop
 unfolding unB
-returns c = 
+returns c =
     let n = c .before .before .args .n in
     let e : c .before .loop .j ≡ before (before n) = omega (arith, less-two n) in
     rw (less-two n) (rw e at (c .before .loop .inv .2))

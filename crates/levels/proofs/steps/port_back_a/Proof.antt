@@ -14,7 +14,7 @@ traded-requires : tie.Need-traded-requires
 traded-requires c κs = search needs
 
 returns : tie.Need-returns
-returns c = 
+returns c =
     rw (← c .before .before .port-at .ensures, ← c .before .port-at2 .ensures) (c .traded .ensures)
 
 pub port-back-a-spec : {M : Type 1} → statement M

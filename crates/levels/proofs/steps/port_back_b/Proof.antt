@@ -14,7 +14,7 @@ raised-requires : tie.Need-raised-requires
 raised-requires c κs = search needs
 
 port-at-requires-2 : tie.Need-port-at-requires-2
-port-at-requires-2 c κs = 
+port-at-requires-2 c κs =
     let a = c .before .before .args in
     omega (arith, c .raised .ensures, raise-among (a .n - 2) (c .before .port-at .result) (a .j) (omega arith))
 
@@ -22,7 +22,7 @@ lowered-requires : tie.Need-lowered-requires
 lowered-requires c κs = search needs
 
 returns : tie.Need-returns
-returns c = 
+returns c =
     rw (← c .before .before .before .port-at .ensures, ← c .before .before .raised .ensures, ← c .before .port-at2 .ensures) (c .lowered .ensures)
 
 pub port-back-b-spec : {M : Type 1} → statement M

@@ -20,7 +20,7 @@ traded-requires : tie.Need-traded-requires
 traded-requires c κs = search needs
 
 returns-2 : tie.Need-returns-2
-returns-2 c = 
+returns-2 c =
     let a = c .before .before .before .args in
     c .traded .ensures ∙ ap (trade (a .i) (a .n)) (c .before .port-at .ensures) ∙ sym (is-other (a .j) (a .n) (a .i) _ (c .before .before .if1 .left))
 

@@ -41,7 +41,7 @@ loop-less : tie.Need-loop-less Inv-loop μ-loop
 loop-less c = search needs
 
 loop-again : tie.Need-loop-again Inv-loop μ-loop
-loop-again c = 
+loop-again c =
     let l = c .before .before in
     (search needs, search needs, tabulate-stored _ (l .loop .u) (l .loop .j) _ (omega arith) (l .loop .inv .2) (c .port-by-a .ensures))
 

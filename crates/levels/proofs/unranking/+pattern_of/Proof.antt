@@ -44,7 +44,7 @@ sub-pattern-of : (t : ℕ) → lts.Need-sub-pattern-of (calls t) (here t) patter
 sub-pattern-of t c = search needs
 
 pattern-of-requires : (t : ℕ) → lts.Need-pattern-of-requires (calls t) (here t) pattern-of.Post
-pattern-of-requires t c κs = 
+pattern-of-requires t c κs =
     let i = c .before in
     let o = i .before .before in
     let s = o .before .before in
@@ -58,12 +58,12 @@ enum-known-i-2 : (t : ℕ) → lts.Need-enum-known-i-2 (calls t) (here t) patter
 enum-known-i-2 t c = search needs
 
 sub-pattern-of-2 : (t : ℕ) → lts.Need-sub-pattern-of-2 (calls t) (here t) pattern-of.Post
-sub-pattern-of-2 t c = 
+sub-pattern-of-2 t c =
     let o = c .before .before .before in
     two-ports (o .before .before .args .n) (o .before .before .args .rank) (o .before .if1 .left) (o .before .before .pre .1 .1)
 
 pattern-of-requires-2 : (t : ℕ) → lts.Need-pattern-of-requires-2 (calls t) (here t) pattern-of.Post
-pattern-of-requires-2 t c κs = 
+pattern-of-requires-2 t c κs =
     let i = c .before in
     let o = i .before .before in
     let s = o .before .before in
@@ -71,7 +71,7 @@ pattern-of-requires-2 t c κs =
     (omega arith, (omega arith, made .1))
 
 step-b-requires : (t : ℕ) → lts.Need-step-b-requires (calls t) (here t) pattern-of.Post
-step-b-requires t c κs = 
+step-b-requires t c κs =
     let i = c .before .before in
     let o = i .before .before in
     let s = o .before .before in
@@ -80,7 +80,7 @@ step-b-requires t c κs =
     (two, omega arith, made .0, at-within (s .args .n - 2) _ 20 _ (omega arith) (made .1) (c .pattern-of2 .ensures))
 
 returns-2 : (t : ℕ) → lts.Need-returns-2 (calls t) (here t) pattern-of.Post
-returns-2 t c = 
+returns-2 t c =
     let i = c .before .before .before in
     let o = i .before .before in
     let s = o .before .before in
@@ -88,7 +88,7 @@ returns-2 t c =
     c .step-a .ensures ∙ ap (stepA (s .args .n) (i .i .given .0 .0)) (c .before .pattern-of .ensures) ∙ made .1
 
 returns-3 : (t : ℕ) → lts.Need-returns-3 (calls t) (here t) pattern-of.Post
-returns-3 t c = 
+returns-3 t c =
     let i = c .before .before .before in
     let o = i .before .before in
     let s = o .before .before in

@@ -35,21 +35,21 @@ count-of-requires : tie.Need-count-of-requires
 count-of-requires c κs = search needs
 
 from-end-requires : tie.Need-from-end-requires
-from-end-requires c κs = 
+from-end-requires c κs =
     let b = c .before .before .before .before in
     let s = b .before in
     let t = rw (c .before .before .before .is-odd .ensures) at (c .before .before .turned-place .ensures) in
     place-inside (s .pre .0) (s .pre .2) (b .block-size .ensures) t
 
 returns : tie.Need-returns
-returns c = 
+returns c =
     let b = c .before .before .before .before in
     let s = b .before in
     let t = rw (c .before .before .before .is-odd .ensures) at (c .before .before .turned-place .ensures) in
     origin-A (s .pre .0) (s .pre .2) (b .block-size .ensures) t (rw (c .before .count-of .ensures) at (c .if1 .taken))
 
 returns-2 : tie.Need-returns-2
-returns-2 c = 
+returns-2 c =
     let f = c .before in
     let b = f .before .before .before .before in
     let s = b .before in
