@@ -129,14 +129,15 @@ unfolding count rank
 place-none true n p e = rw e
 place-none false n p e = rw e
 
--- so, with the place x of the shorter pattern, the sum is the place
-pub level-sum : {forward b : Bool} {n x : ℕ} {p : List ℕ} {l : Level} → LevelOf forward n p l → l .forward ≡ b
-    → x ≡ turned b (count (l .ports)) (rank (l .ports) (take (l .ports) (l .pattern))) → l .passed + x ≡ turned forward (count n) (rank n p)
-level-sum {l = l} here e ex =
-    let k = count (l .ports) in
-    let r = rank (l .ports) (take (l .ports) (l .pattern)) in
-    ap (λ (y : ℕ). l .passed + y) (ex ∙ ap (λ (b : Bool). turned b k r) (sym e)) ∙ sym (here .place)
+-- with the place x of the shorter pattern, the sum is the place
+module _ {forward b : Bool} {n x : ℕ} {p : List ℕ} {l : Level} (here : LevelOf forward n p l) (e : l .forward ≡ b)
+    (ex : x ≡ turned b (count (l .ports)) (rank (l .ports) (take (l .ports) (l .pattern)))) where
+  pub level-sum : l .passed + x ≡ turned forward (count n) (rank n p)
+  level-sum =
+      let k = count (l .ports) in
+      let r = rank (l .ports) (take (l .ports) (l .pattern)) in
+      ap (λ (y : ℕ). l .passed + y) (ex ∙ ap (λ (side : Bool). turned side k r) (sym e)) ∙ sym (here .place)
 
--- and fits 64 bits
-pub sum-fits : {n y : ℕ} {p : List ℕ} (forward : Bool) → y ≡ turned forward (count n) (rank n p) → n ≤ mostPorts → Derangement n p → y ≤ largest64
-sum-fits {n = n} {p = p} forward e h D = omega (arith, turned-below forward (count n) (rank n p) (rank-below n p D), count-most n h)
+  -- and fits 64 bits
+  pub level-fits : n ≤ mostPorts → Derangement n p → l .passed + x ≤ largest64
+  level-fits h D = omega (arith, level-sum, turned-below forward (count n) (rank n p) (rank-below n p D), count-most n h)

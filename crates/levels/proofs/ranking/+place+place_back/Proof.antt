@@ -3,7 +3,7 @@
 use mathlib.Core.Bool.{true, false}
 use Prim.Native.Nat.{ℕ, _<_}
 use native.Mathlib.Omega.{arith}
-use Rattle.levels.proofs.Passing.{two-jacks, place-none, level-sum, sum-fits}
+use Rattle.levels.proofs.Passing.{two-jacks, place-none, level-sum, level-fits}
 use borrow.Fn.Kinds.{In}
 use borrow.Fn.PlainCycle.{Measures, is, falls, and}
 use Rattle.levels.proofs.ranking.place.Reads as place
@@ -54,7 +54,7 @@ place-add-result : (t : ℕ) → place-lts.Need-add-result (calls t) (here t) pl
 place-add-result t c =
     let f = c .before .before in
     let s = f .before .before .before .before in
-    omega (arith, sum-fits true (level-sum (f .before .before .level .ensures) (f .if2 .taken) (c .before .place .ensures)) (s .pre .1 .0) (s .pre .1 .1))
+    omega (arith, level-fits (f .before .before .level .ensures) (f .if2 .taken) (c .before .place .ensures) (s .pre .1 .0) (s .pre .1 .1))
 
 place-returns-2 : (t : ℕ) → place-lts.Need-returns-2 (calls t) (here t) place.Post
 place-returns-2 t c =
@@ -68,7 +68,7 @@ place-add-result-2 : (t : ℕ) → place-lts.Need-add-result-2 (calls t) (here t
 place-add-result-2 t c =
     let f = c .before .before in
     let s = f .before .before .before .before in
-    omega (arith, sum-fits true (level-sum (f .before .before .level .ensures) (f .if2 .left) (c .before .place-back .ensures)) (s .pre .1 .0) (s .pre .1 .1))
+    omega (arith, level-fits (f .before .before .level .ensures) (f .if2 .left) (c .before .place-back .ensures) (s .pre .1 .0) (s .pre .1 .1))
 
 place-returns-3 : (t : ℕ) → place-lts.Need-returns-3 (calls t) (here t) place.Post
 place-returns-3 t c =
@@ -90,7 +90,7 @@ place-back-add-result : (t : ℕ) → place-back-lts.Need-add-result (calls t) (
 place-back-add-result t c =
     let f = c .before .before in
     let s = f .before .before .before .before in
-    omega (arith, sum-fits false (level-sum (f .before .before .level .ensures) (f .if2 .taken) (c .before .place .ensures)) (s .pre .1 .0) (s .pre .1 .1))
+    omega (arith, level-fits (f .before .before .level .ensures) (f .if2 .taken) (c .before .place .ensures) (s .pre .1 .0) (s .pre .1 .1))
 
 place-back-returns-2 : (t : ℕ) → place-back-lts.Need-returns-2 (calls t) (here-back t) place-back.Post
 place-back-returns-2 t c =
@@ -104,7 +104,7 @@ place-back-add-result-2 : (t : ℕ) → place-back-lts.Need-add-result-2 (calls 
 place-back-add-result-2 t c =
     let f = c .before .before in
     let s = f .before .before .before .before in
-    omega (arith, sum-fits false (level-sum (f .before .before .level .ensures) (f .if2 .left) (c .before .place-back .ensures)) (s .pre .1 .0) (s .pre .1 .1))
+    omega (arith, level-fits (f .before .before .level .ensures) (f .if2 .left) (c .before .place-back .ensures) (s .pre .1 .0) (s .pre .1 .1))
 
 place-back-returns-3 : (t : ℕ) → place-back-lts.Need-returns-3 (calls t) (here-back t) place-back.Post
 place-back-returns-3 t c =
