@@ -10,7 +10,6 @@ use native.Mathlib.Omega.{arith}
 use lib.ListN.{take}
 use borrow.Author.Tests.{lt-ltb, le-ltb}
 use Rattle.listing.specs.Numbers.{Among, before, odd}
-use Rattle.listing.specs.Pattern.{entry}
 use Rattle.listing.specs.Count.{count}
 use Rattle.listing.specs.Steps.{stepA, stepB}
 use Rattle.listing.specs.Listing.{listing, at}
@@ -19,36 +18,33 @@ use Rattle.listing.proofs.Numbers.{either, below?}
 use Rattle.listing.proofs.Places.{turned-below}
 use Rattle.listing.proofs.Ranks.{perBlock-pos, block-among, at-derangement}
 use Rattle.listing.proofs.Unranks.{unrank-at}
+use Rattle.levels.specs.Entries.{AtMost}
 use Rattle.levels.specs.Levels.{originIn, originOf}
 use Rattle.levels.specs.declared.types.Origin.{Origin}
 use Rattle.levels.specs.declared.types.Origin.the-variants.{ByA, ByB}
 use Rattle.levels.proofs.Less.{less-one}
 
 -- where there is a rank and a port there are two
-pub two-ports : (n r : ℕ) → n ≢ 0 → r < count n → 2 ≤ n
+pub two-ports : {n r : ℕ} → n ≢ 0 → r < count n → 2 ≤ n
 unfolding count
-two-ports zero r h l = absurd (h refl)
-two-ports (suc zero) r h l = absurd (not-suc-le-zero l)
-two-ports (suc (suc m)) r h l = omega arith
+two-ports {n = zero} h l = absurd (h refl)
+two-ports {n = suc zero} h l = absurd (not-suc-le-zero l)
+two-ports {n = suc (suc m)} h l = omega arith
 
 -- ---- the numbers that the code computes
 
-module _ {n r size : ℕ} (h : 2 ≤ n) (l : r < count n) (e : size ≡ perBlock n) where
-  -- a block has a pattern
-  pub size-some : 0 < size
-  size-some = rw e (some n h l) where
-    some : (k : ℕ) → 2 ≤ k → r < count k → 0 < perBlock k
-    some zero a b = absurd (omega arith)
-    some (suc zero) a b = absurd (omega arith)
-    some (suc (suc m)) a b = perBlock-pos m r b
+-- blocks are not empty, and fewer than n - 1 of them come before that of rank r
+blocks-around : (n r : ℕ) → 2 ≤ n → r < count n → (0 < perBlock n) × (r / perBlock n < n - 1)
+blocks-around zero r h l = absurd (omega arith)
+blocks-around (suc zero) r h l = absurd (omega arith)
+blocks-around (suc (suc m)) r h l = (perBlock-pos m r l, omega (arith, block-among m r l))
 
-  -- fewer than n - 1 whole blocks come before
+module _ {n r size : ℕ} (h : 2 ≤ n) (l : r < count n) (e : size ≡ perBlock n) where
+  pub size-some : 0 < size
+  size-some = rw e (blocks-around n r h l .0)
+
   pub blocks-fewer : r / size < n - 1
-  blocks-fewer = rw e (fewer n h l) where
-    fewer : (k : ℕ) → 2 ≤ k → r < count k → r / perBlock k < k - 1
-    fewer zero a b = absurd (omega arith)
-    fewer (suc zero) a b = absurd (omega arith)
-    fewer (suc (suc m)) a b = omega (arith, block-among m r b)
+  blocks-fewer = rw e (blocks-around n r h l .1)
 
   module _ {u : ℕ} (t : u ≡ turned (odd (r / size + 1)) size (r % size)) where
     -- the place in the block is in the block
@@ -110,7 +106,7 @@ makes (suc (suc m)) r h l =
 
 -- the origin of a rank makes its pattern
 pub origin-makes : {n r : ℕ} {o o′ : Origin} → n ≢ 0 → r < count n → o ≡ originOf n r → o ≡ o′ → Makes n r o′
-origin-makes {n = n} {r = r} h l e e′ = subst (Makes n r) (sym e ∙ e′) (makes n r (two-ports n r h l) l)
+origin-makes {n = n} {r = r} h l e e′ = subst (Makes n r) (sym e ∙ e′) (makes n r (two-ports h l) l)
 
 -- ---- what the recursion asks of the list
 
@@ -119,6 +115,6 @@ pub none-at : (n r : ℕ) (t : List ℕ) → n ≡ 0 → r < count n → take n 
 unfolding count at listing
 none-at n r t e h = let h′ = rw e at h in let z : r ≡ 0 = omega arith in rw (e, z)
 
--- the ports of the pattern of a rank are at most as many as there are ports
-pub at-within : (n r m : ℕ) (t : List ℕ) → n ≤ m → r < count n → t ≡ at n r → (k : ℕ) → Among n k → entry t k ≤ m
-at-within n r m t l h e k a = rw e (omega (arith, at-derangement n r h .permutation .ports k a))
+-- no port of the pattern of a rank is above the number of ports
+pub at-within : {n r m : ℕ} {t : List ℕ} → n ≤ m → r < count n → t ≡ at n r → AtMost m n t
+at-within {n = n} {r = r} l h e k a = rw e (omega (arith, at-derangement n r h .permutation .ports k a))

@@ -19,13 +19,14 @@ use Rattle.listing.specs.Limits.{mostPorts, largest64}
 use Rattle.listing.proofs.Counts.{count-blocks}
 use Rattle.listing.proofs.Shorter.{end-fits, way-back}
 use Rattle.listing.proofs.Places.{turned-below}
-use Rattle.listing.proofs.Ranks.{not-one, rank-below}
+use Rattle.listing.proofs.Ranks.{rank-below}
 use Rattle.listing.proofs.Reading.{rank-read}
 use Rattle.listing.proofs.Limits.{count-most}
 use Rattle.levels.specs.Levels.{cameOf, wayOf, endOf, LevelOf}
 use Rattle.levels.specs.declared.types.Level.{Level}
 use Rattle.levels.specs.declared.types.Came.{Came}
 use Rattle.levels.specs.declared.types.Came.the-variants.{ByA, ByB}
+use Rattle.levels.proofs.Origins.{two-ports}
 
 -- ---- the step that a pattern came by
 
@@ -40,41 +41,28 @@ unfolding way
 came-A {n = n} {x = x} p e f h = rw (← e, ← f, ne-eqb x n h)
 
 -- which step it was, and the entry at the last jack
-way-came : (c : Came) (w : Way) (i : ℕ) → c ≡ cameOf w i → w ≡ wayOf c
-way-came c byA i e = rw e
-way-came c byB i e = rw e
-
-end-came : (c : Came) (w : Way) (i : ℕ) → c ≡ cameOf w i → i ≡ endOf c
-end-came c byA i e = rw e
-end-came c byB i e = rw e
+as-came : (c : Came) (w : Way) (i : ℕ) → c ≡ cameOf w i → (w ≡ wayOf c) × (i ≡ endOf c)
+as-came c byA i e = rw e (refl, refl)
+as-came c byB i e = rw e (refl, refl)
 
 -- a pattern with a port has two
-pub two-jacks : (n : ℕ) (p : List ℕ) → n ≢ 0 → Derangement n p → 2 ≤ n
-two-jacks zero p h D = absurd (h refl)
-two-jacks (suc zero) p h D = absurd (not-one p D)
-two-jacks (suc (suc m)) p h D = omega arith
+pub two-jacks : {n : ℕ} {p : List ℕ} → n ≢ 0 → Derangement n p → 2 ≤ n
+two-jacks {n = n} {p = p} h D = two-ports h (rank-below n p D)
 
 -- the entry at the last jack is 1 to n - 1
 pub end-among : {n : ℕ} {p : List ℕ} {c : Came} → 2 ≤ n → Derangement n p → c ≡ cameOf (way n p) (entry p n) → Among (n - 1) (endOf c)
 end-among {n = zero} h D e = absurd (omega arith)
 end-among {n = suc zero} h D e = absurd (omega arith)
-end-among {n = suc (suc m)} {p = p} {c = c} h D e = rw (← end-came c (way (suc (suc m)) p) (entry p (suc (suc m))) e) (omega (arith, end-fits m p D))
+end-among {n = suc (suc m)} {p = p} {c = c} h D e = rw (← as-came c (way (suc (suc m)) p) (entry p (suc (suc m))) e .1) (omega (arith, end-fits m p D))
 
 -- ---- the first part of a block
 
--- by A: where i is odd and the list is read forward, or neither
-pub both-or-neither : (b forward : Bool) → Bool·beq b forward ≡ cond forward b (not b)
-both-or-neither true true = refl
-both-or-neither true false = refl
-both-or-neither false true = refl
-both-or-neither false false = refl
-
--- by B: else
-pub one-of-two : (b forward : Bool) → not (Bool·beq b forward) ≡ cond forward (not b) b
-one-of-two true true = refl
-one-of-two true false = refl
-one-of-two false true = refl
-one-of-two false false = refl
+-- by A where i is odd and the list is read forward, or neither; by B where one of the two
+pub sides : (b forward : Bool) → (Bool·beq b forward ≡ cond forward b (not b)) × (not (Bool·beq b forward) ≡ cond forward (not b) b)
+sides true true = (refl, refl)
+sides true false = (refl, refl)
+sides false true = (refl, refl)
+sides false false = (refl, refl)
 
 -- ---- what is passed over
 
@@ -99,8 +87,8 @@ part-inside false byA n = omega arith
 part-inside false byB n = omega arith
 
 -- what is passed over is no more than the list
-pub passed-inside : (forward : Bool) (w : Way) {n i k size part : ℕ} → 2 ≤ n → Among (n - 1) i
-    → k ≡ cond forward (before i) (n - suc i) → size ≡ perBlock n → part ≡ cond (comesFirst forward w i) 0 (count (shorter (other w) n)) → k * size + part ≤ count n
+pub passed-inside : (forward : Bool) (w : Way) {n i k size part : ℕ} → 2 ≤ n → Among (n - 1) i → k ≡ cond forward (before i) (n - suc i)
+    → size ≡ perBlock n → part ≡ cond (comesFirst forward w i) 0 (count (shorter (other w) n)) → k * size + part ≤ count n
 passed-inside forward w {n = n} {i = i} h fits ek es ep =
     rw (ek, es)
     (omega (arith, blocks-inside n (cond forward (before i) (n - suc i)) h (blocks-fewer forward n i fits), part-inside (comesFirst forward w i) w n))
@@ -113,14 +101,16 @@ shorter-fewer byA m = omega arith
 shorter-fewer byB m = omega arith
 
 -- the place is what is passed over and the place of the shorter pattern, in its list read forward or backward
-pub place-level : (forward : Bool) {first : Bool} {n x : ℕ} {p : List ℕ} {c : Came} (k : ℕ) (t : List ℕ) → 2 ≤ n → Derangement n p → c ≡ cameOf (way n p) (entry p n)
-    → x ≡ passed forward (wayOf c) n (endOf c) → first ≡ comesFirst forward (wayOf c) (endOf c) → k ≡ shorter (wayOf c) n → t ≡ back (wayOf c) n p
+pub place-level : (forward : Bool) {first : Bool} {n x : ℕ} {p : List ℕ} {c : Came} (k : ℕ) (t : List ℕ) → 2 ≤ n → Derangement n p
+    → c ≡ cameOf (way n p) (entry p n) → x ≡ passed forward (wayOf c) n (endOf c) → first ≡ comesFirst forward (wayOf c) (endOf c)
+    → k ≡ shorter (wayOf c) n → t ≡ back (wayOf c) n p
     → (k < n) × Derangement k t × (turned forward (count n) (rank n p) ≡ x + turned first (count k) (rank k t))
 place-level forward {n = zero} k t h D e ex ef ek et = absurd (omega arith)
 place-level forward {n = suc zero} k t h D e ex ef ek et = absurd (omega arith)
 place-level forward {n = suc (suc m)} {p = p} {c = c} k t h D e ex ef ek et =
     let n = suc (suc m) in
-    rw (ex, ef, ek, et, ← way-came c (way n p) (entry p n) e, ← end-came c (way n p) (entry p n) e)
+    let a = as-came c (way n p) (entry p n) e in
+    rw (ex, ef, ek, et, ← a .0, ← a .1)
     (shorter-fewer (way n p) m, way-back m p D .0, rank-read forward m p (way n p) D refl)
 
 -- the pattern with no ports has place 0

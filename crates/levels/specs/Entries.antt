@@ -1,8 +1,8 @@
 -- What the steps, and the steps back, have at each jack: the values that their definitions tabulate.
 -- Assumes nothing.
-use Prim.Native.Nat.{ℕ}
+use Prim.Native.Nat.{ℕ, _≤_}
 use mathlib.Core.List.{List}
-use Rattle.listing.specs.Numbers.{is, trade, raise, lower}
+use Rattle.listing.specs.Numbers.{Among, is, trade, raise, lower}
 use Rattle.listing.specs.Pattern.{entry}
 
 -- the port at jack j of A(i)
@@ -20,3 +20,7 @@ byBackA n p j = trade n (entry p n) (entry p j)
 -- the port at jack j back from B
 abbrev pub byBackB : ℕ → List ℕ → ℕ → ℕ
 byBackB n p j = lower (entry p n) (entry p (raise (entry p n) j))
+
+-- no port of the panel p with n jacks is above m
+abbrev pub AtMost : ℕ → ℕ → List ℕ → Type 0
+AtMost m n p = (j : ℕ) → Among n j → entry p j ≤ m

@@ -3,13 +3,12 @@ use crate::numbers::raised;
 use crate::numbers::traded;
 use crate::panels::port_at;
 ghost use mathlib.Core.Path.{_≡_};
-ghost use Prim.Native.Nat.{ℕ, _-_, _≤_};
+ghost use Prim.Native.Nat.{_-_, _≤_};
 ghost use lib.ListN.{take};
 ghost use Rattle.listing.specs.Numbers.{Among};
-ghost use Rattle.listing.specs.Pattern.{entry};
 ghost use Rattle.listing.specs.Steps.{stepA, stepB, unA, unB};
 ghost use Rattle.listing.specs.Limits.{mostPorts};
-ghost use Rattle.levels.specs.Entries.{byStepA, byStepB, byBackA, byBackB};
+ghost use Rattle.levels.specs.Entries.{byStepA, byStepB, byBackA, byBackB, AtMost};
 
 // The port at jack j of the pattern that A(i) makes from t.
 fn port_by_a(t: [u8; 20], n: u8, i: u8, j: u8) -> u8
@@ -39,7 +38,7 @@ pub fn step_a(t: [u8; 20], n: u8, i: u8) -> [u8; 20]
 
 // The port at jack j of the pattern that B(i) makes from t.
 fn port_by_b(t: [u8; 20], n: u8, i: u8, j: u8) -> u8
-    requires { ⌜ (2 ≤ n) × (n ≤ mostPorts) × Among (n - 1) i × Among n j × ((k : ℕ) → Among (n - 2) k → entry (take (n - 2) t) k ≤ mostPorts) ⌝ }
+    requires { ⌜ (2 ≤ n) × (n ≤ mostPorts) × Among (n - 1) i × Among n j × AtMost mostPorts (n - 2) (take (n - 2) t) ⌝ }
     ensures { λ r. ⌜ r ≡ byStepB n i (take (n - 2) t) j ⌝ }
 {
     if j == n {
@@ -53,7 +52,7 @@ fn port_by_b(t: [u8; 20], n: u8, i: u8, j: u8) -> u8
 
 // B(i): from t of n - 2 ports, one more to entries of i or more, n inserted as the entry at jack i, and i at jack n.
 pub fn step_b(t: [u8; 20], n: u8, i: u8) -> [u8; 20]
-    requires { ⌜ (2 ≤ n) × (n ≤ mostPorts) × Among (n - 1) i × ((k : ℕ) → Among (n - 2) k → entry (take (n - 2) t) k ≤ mostPorts) ⌝ }
+    requires { ⌜ (2 ≤ n) × (n ≤ mostPorts) × Among (n - 1) i × AtMost mostPorts (n - 2) (take (n - 2) t) ⌝ }
     ensures { λ r. ⌜ take n r ≡ stepB n i (take (n - 2) t) ⌝ }
 {
     let mut u = [0u8; 20];

@@ -45,7 +45,7 @@ place-returns : (t : ℕ) → place-lts.Need-returns (calls t) (here t) place.Po
 place-returns t c = place-none true (c .before .args .n) _ (c .if1 .taken)
 
 place-level-requires : (t : ℕ) → place-lts.Need-level-requires (calls t) (here t) place.Post
-place-level-requires t c κs = let s = c .before in (two-jacks (s .args .n) _ (c .if1 .left) (s .pre .1 .1), s .pre .1 .0, s .pre .1 .1)
+place-level-requires t c κs = let s = c .before in (two-jacks (c .if1 .left) (s .pre .1 .1), s .pre .1 .0, s .pre .1 .1)
 
 place-place-requires : (t : ℕ) → place-lts.Need-place-requires (calls t) (here t) place.Post
 place-place-requires t c κs = let l = c .before .before .level .ensures in (omega arith, (omega arith, l .pattern))
@@ -81,7 +81,7 @@ place-back-returns : (t : ℕ) → place-back-lts.Need-returns (calls t) (here-b
 place-back-returns t c = place-none false (c .before .args .n) _ (c .if1 .taken)
 
 place-back-level-requires : (t : ℕ) → place-back-lts.Need-level-requires (calls t) (here-back t) place-back.Post
-place-back-level-requires t c κs = let s = c .before in (two-jacks (s .args .n) _ (c .if1 .left) (s .pre .1 .1), s .pre .1 .0, s .pre .1 .1)
+place-back-level-requires t c κs = let s = c .before in (two-jacks (c .if1 .left) (s .pre .1 .1), s .pre .1 .0, s .pre .1 .1)
 
 place-back-place-requires : (t : ℕ) → place-back-lts.Need-place-requires (calls t) (here-back t) place-back.Post
 place-back-place-requires t c κs = let l = c .before .before .level .ensures in (omega arith, (omega arith, l .pattern))

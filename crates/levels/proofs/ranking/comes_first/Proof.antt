@@ -2,7 +2,7 @@
 -- Assumes nothing.
 use borrow.Author.Needs.{needs}
 use Rattle.listing.specs.Numbers.{odd}
-use Rattle.levels.proofs.Passing.{both-or-neither, one-of-two}
+use Rattle.levels.proofs.Passing.{sides}
 use Rattle.levels.proofs.ranking.comes_first.Statement.{statement}
 use Rattle.levels.proofs.ranking.comes_first.Tie as tie
 
@@ -21,12 +21,12 @@ is-odd-requires-2 c κs = search needs
 returns : tie.Need-returns
 returns c =
     let i = c .before .before .c .given in
-    rw (i .1, c .is-odd .ensures) (both-or-neither (odd (i .0 .0)) (c .before .before .before .before .args .forward))
+    rw (i .1, c .is-odd .ensures) (sides (odd (i .0 .0)) (c .before .before .before .before .args .forward) .0)
 
 returns-2 : tie.Need-returns-2
 returns-2 c =
     let i = c .before .before .c2 .given in
-    rw (i .1, c .is-odd2 .ensures) (one-of-two (odd (i .0 .0)) (c .before .before .before .before .args .forward))
+    rw (i .1, c .is-odd2 .ensures) (sides (odd (i .0 .0)) (c .before .before .before .before .args .forward) .1)
 
 pub comes-first-spec : {M : Type 1} → statement M
 comes-first-spec =
