@@ -40,9 +40,11 @@ blocks-around (suc zero) r h l = absurd (omega arith)
 blocks-around (suc (suc m)) r h l = (perBlock-pos m r l, omega (arith, block-among m r l))
 
 module _ {n r size : ℕ} (h : 2 ≤ n) (l : r < count n) (e : size ≡ perBlock n) where
+  -- the size of a block, as a divisor
   pub size-some : 0 < size
   size-some = rw e (blocks-around n r h l .0)
 
+  -- the number of blocks before, as a byte
   pub blocks-fewer : r / size < n - 1
   blocks-fewer = rw e (blocks-around n r h l .1)
 
@@ -51,6 +53,7 @@ module _ {n r size : ℕ} (h : 2 ≤ n) (l : r < count n) (e : size ≡ perBlock
     pub place-inside : u < size
     place-inside = rw t (turned-below (odd (r / size + 1)) size (r % size) (mod-lt r size-some))
 
+    -- the definition, in these numbers
     known : originIn n (r / size + 1) u ≡ originOf n r
     unfolding originOf
     known = rw (t, add-one, e)
@@ -74,6 +77,7 @@ abbrev pub Makes : ℕ → ℕ → Origin → Type 0
 Makes n r (ByA i s) = (s < count (n - 1)) × (stepA n i (at (n - 1) s) ≡ at n r)
 Makes n r (ByB i s) = Among (n - 1) i × (s < count (n - 2)) × (stepB n i (at (n - 2) s) ≡ at n r)
 
+-- as `unrank` makes it
 makes-A : (m r i s : ℕ) → r < count (suc (suc m)) → s < count (suc m) → stepA (suc (suc m)) i (unrank (suc m) s) ≡ unrank (suc (suc m)) r
     → Makes (suc (suc m)) r (ByA i s)
 makes-A m r i s l b e =
@@ -87,6 +91,7 @@ makes-B m r i s fits l b e =
     let a′ : suc (suc m) - 2 ≡ m = omega arith in
     rw (a, a′) (fits, b, ap (stepB (suc (suc m)) i) (sym (unrank-at m s b)) ∙ e ∙ unrank-at (suc (suc m)) r l)
 
+-- by A or by B, as the place in the block says
 makes : (n r : ℕ) → 2 ≤ n → r < count n → Makes n r (originOf n r)
 unfolding originOf unrank
 makes zero r h l = absurd (omega arith)

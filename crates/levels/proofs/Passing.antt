@@ -75,10 +75,10 @@ blocks-inside (suc (suc m)) k h l =
     rw (count-blocks m) (omega arith)
 
 -- fewer than n - 1 blocks come before block i, forward or backward
-blocks-fewer : (forward : Bool) (n i : ℕ) → Among (n - 1) i → cond forward (before i) (n - suc i) < n - 1
-blocks-fewer true n zero h = absurd (omega arith)
-blocks-fewer true n (suc i) h = omega arith
-blocks-fewer false n i h = omega arith
+before-fewer : (forward : Bool) (n i : ℕ) → Among (n - 1) i → cond forward (before i) (n - suc i) < n - 1
+before-fewer true n zero h = absurd (omega arith)
+before-fewer true n (suc i) h = omega arith
+before-fewer false n i h = omega arith
 
 -- a part of a block is no longer than the block
 part-inside : (first : Bool) (w : Way) (n : ℕ) → cond first 0 (count (shorter (other w) n)) ≤ perBlock n
@@ -91,7 +91,7 @@ pub passed-inside : (forward : Bool) (w : Way) {n i k size part : ℕ} → 2 ≤
     → size ≡ perBlock n → part ≡ cond (comesFirst forward w i) 0 (count (shorter (other w) n)) → k * size + part ≤ count n
 passed-inside forward w {n = n} {i = i} h fits ek es ep =
     rw (ek, es)
-    (omega (arith, blocks-inside n (cond forward (before i) (n - suc i)) h (blocks-fewer forward n i fits), part-inside (comesFirst forward w i) w n))
+    (omega (arith, blocks-inside n (cond forward (before i) (n - suc i)) h (before-fewer forward n i fits), part-inside (comesFirst forward w i) w n))
 
 -- ---- the place
 

@@ -21,26 +21,29 @@ use Rattle.levels.specs.declared.types.Level.{Level}
 abbrev pub originIn : ℕ → ℕ → ℕ → Origin
 originIn n i u = cond (ltb u (count (before n))) (ByA i u) (ByB i (fromEnd (count (before (before n))) (u - count (before n))))
 
--- the step that makes the pattern of rank r, and the rank of the shorter one, as `unrank` has them
+-- the step that makes the pattern of rank r, and the rank of the shorter one, as `unrank` has them (the paper, 'The list')
 unfoldable pub originOf : ℕ → ℕ → Origin
 originOf n r =
     let i = suc (r / perBlock n) in
     originIn n i (turned (odd i) (perBlock n) (r % perBlock n))
 
--- a way with the entry at the last jack, and the two again
+-- the step that a pattern came by: the way, and the entry at its last jack
 abbrev pub cameOf : Way → ℕ → Came
 cameOf byA i = Came-ByA i
 cameOf byB i = Came-ByB i
 
+-- the way of a step
 abbrev pub wayOf : Came → Way
 wayOf (Came-ByA i) = byA
 wayOf (Came-ByB i) = byB
 
+-- the entry at the last jack, which is the number of the block
 abbrev pub endOf : Came → ℕ
 endOf (Came-ByA i) = i
 endOf (Came-ByB i) = i
 
--- one level of the place of p: what is passed over, and the place of a shorter pattern in its list, read forward or backward
+-- one level of the place of p in the list, read forward or backward ('by turns', the paper, 'The list'): a pattern with fewer ports, and the place of p
+-- is what is passed over and the place of that pattern in its list, read forward or backward
 pub record LevelOf (forward : Bool) (n : ℕ) (p : List ℕ) (l : Level) : Type 0 where
   pub fewer : l .ports < n
   pub pattern : Derangement (l .ports) (take (l .ports) (l .pattern))

@@ -7,7 +7,7 @@ use crate::steps::back_b;
 use crate::types::Came;
 use crate::types::Level;
 ghost use mathlib.Core.Path.{_≡_};
-ghost use mathlib.Core.Bool.{Bool, true, false, cond};
+ghost use mathlib.Core.Bool.{cond};
 ghost use Prim.Native.Nat.{suc, _-_, _≤_};
 ghost use lib.ListN.{take};
 ghost use Rattle.listing.specs.Numbers.{Among, before};

@@ -3,9 +3,9 @@
 use mathlib.Core.Bool.{true, false}
 use Prim.Native.Nat.{ℕ, _<_}
 use native.Mathlib.Omega.{arith}
-use Rattle.levels.proofs.Passing.{two-jacks, place-none, level-sum, level-fits}
 use borrow.Fn.Kinds.{In}
 use borrow.Fn.PlainCycle.{Measures, is, falls, and}
+use Rattle.levels.proofs.Passing.{two-jacks, place-none, level-sum, level-fits}
 use Rattle.levels.proofs.ranking.place.Reads as place
 use Rattle.levels.proofs.ranking.place.Kinds as place-kinds
 use Rattle.levels.proofs.ranking.+place+place_back.Lts-place as place-lts
