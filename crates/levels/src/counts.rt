@@ -1,3 +1,4 @@
+// The counts and the sizes of blocks, up to 20 ports.
 ghost use mathlib.Core.Path.{_≡_};
 ghost use Prim.Native.Nat.{_≤_};
 ghost use Rattle.listing.specs.Count.{count};

@@ -1,3 +1,4 @@
+// The place of a pattern in the list and in the reversed list, level by level.
 use crate::counts::block_size;
 use crate::counts::count_of;
 use crate::numbers::is_odd;

@@ -1,3 +1,4 @@
+// The steps A(i) and B(i), and the steps back, from array to array.
 use crate::numbers::lowered;
 use crate::numbers::raised;
 use crate::numbers::traded;

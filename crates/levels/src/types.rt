@@ -1,3 +1,5 @@
+// What one level hands on to the next.
+
 // The step that makes a pattern, and the rank of the shorter pattern that it is made from.
 pub enum Origin {
     ByA(u8, u64),

@@ -1,3 +1,4 @@
+// The pattern of a rank, level by level.
 use crate::counts::block_size;
 use crate::counts::count_of;
 use crate::numbers::from_end;

@@ -1,15 +1,15 @@
--- `levels::steps::back_a` meets its contract: each turn fills one jack more. The loop's invariant: the first j entries are the step's.
+-- `levels::steps::back_a` meets its contract: each turn fills one jack more. The loop's invariant: the first j entries are those of the step back.
 -- Assumes nothing.
 use mathlib.Core.Path.{_≡_, refl}
 use Prim.Native.Nat.{_≤_, _-_}
 use native.Mathlib.Omega.{arith}
 use borrow.Author.Needs.{needs}
 use lib.ListN.{length, take}
+use Rattle.listing.specs.Numbers.{before}
 use Rattle.listing.specs.Pattern.{tabulate}
 use Rattle.listing.specs.Steps.{unA}
 use Rattle.levels.specs.Entries.{byBackA}
 use Rattle.levels.proofs.Filling.{tabulate-stored}
-use Rattle.listing.specs.Numbers.{before}
 use Rattle.levels.proofs.Less.{less-one}
 use Rattle.levels.proofs.steps.back_a.Statement.{statement}
 use Rattle.levels.proofs.steps.back_a.Tie as tie
