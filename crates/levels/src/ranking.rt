@@ -51,17 +51,6 @@ fn blocks_before(forward: bool, n: u8, i: u8) -> u8
     if forward { i - 1 } else { n - 1 - i }
 }
 
-// How many patterns of each block come by the other step.
-fn other_part(n: u8, c: Came) -> u64
-    requires { ⌜ (2 ≤ n) × (n ≤ mostPorts) ⌝ }
-    ensures { λ r. ⌜ r ≡ count (shorter (other (wayOf c)) n) ⌝ }
-{
-    match c {
-        Came::ByA(_) => count_of(n - 2),
-        Came::ByB(_) => count_of(n - 1),
-    }
-}
-
 // The block that a pattern stands in.
 fn block_of(c: Came) -> u8
     ensures { λ r. ⌜ r ≡ endOf c ⌝ }
@@ -80,7 +69,10 @@ fn first_part(forward: bool, n: u8, c: Came) -> u64
     if comes_first(forward, c) {
         return 0;
     }
-    other_part(n, c)
+    match c {
+        Came::ByA(_) => count_of(n - 2),
+        Came::ByB(_) => count_of(n - 1),
+    }
 }
 
 // How many patterns of the list, read forward or backward, come before the part in which a pattern stands.
