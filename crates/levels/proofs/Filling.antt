@@ -1,0 +1,39 @@
+-- Arrays that are filled from the front, one entry a turn.
+-- Assumes nothing.
+use mathlib.Core.Path.{_≡_, refl, sym, ap, _∙_}
+use mathlib.Core.List.{List, [], _∷_, _++_}
+use Prim.Native.Nat.{ℕ, zero, suc, _+_, _-_, _<_}
+use native.Mathlib.Numerals.{add-one}
+use native.Mathlib.Omega.{arith}
+use lib.ListN.{length, take, getD, set}
+use lib.Seq.{take-suc, take-suc-set, take-all, take-length, getD-take}
+use Rattle.listing.specs.Numbers.{Among}
+use Rattle.listing.specs.Pattern.{entry, tabulate}
+
+-- the entry at a jack of a panel in an array
+pub entry-front : (n : ℕ) (p : List ℕ) (j : ℕ) → Among n j → getD p (j - 1) 0 ≡ entry (take n p) j
+entry-front n p zero h = absurd (omega arith)
+entry-front n p (suc j) h = let e : suc j - 1 ≡ j = omega arith in rw e (sym (getD-take n p j 0 (omega arith)))
+
+-- one jack more of a tabulated panel
+tabulate-more : (n : ℕ) (g : ℕ → ℕ) → tabulate (suc n) g ≡ tabulate n g ++ (g (suc n) ∷ [])
+unfolding tabulate
+tabulate-more zero g = refl
+tabulate-more (suc n) g = ap (λ (p : List ℕ). g 1 ∷ p) (tabulate-more n (λ j. g (suc j)))
+
+-- the entry of jack j + 1 is stored at index j
+pub tabulate-stored : (g : ℕ → ℕ) (u : List ℕ) (j v : ℕ) → j < length u → take j u ≡ tabulate j g → v ≡ g (j + 1)
+    → take (j + 1) (set u j v) ≡ tabulate (j + 1) g
+tabulate-stored g u j v h p e = let e′ = rw add-one at e in rw (add-one, take-suc-set u j v, tabulate-more j g, p, e′)
+
+-- the entry of t at index j is stored there
+pub copy-stored : (t u : List ℕ) (j : ℕ) → j < length u → j < length t → take j u ≡ take j t → take (j + 1) (set u j (getD t j 0)) ≡ take (j + 1) t
+copy-stored t u j hu ht p = rw (add-one, take-suc-set u j (getD t j 0), take-suc t j 0, p)
+
+-- after the last turn the front of u is t
+pub copy-front : (t u : List ℕ) (j : ℕ) → j ≡ length t → take j u ≡ take j t → take (length t) u ≡ t
+copy-front t u j e p = (rw e at p) ∙ take-length t
+
+-- after the last turn u is the front of t
+pub copy-all : (t u : List ℕ) (j m : ℕ) → j ≡ m → length u ≡ m → take j u ≡ take j t → u ≡ take m t
+copy-all t u j m e l p = sym (take-all m u (omega arith)) ∙ rw e at p

@@ -1,0 +1,5 @@
+pub mod Less
+pub mod CountTable
+pub mod Filling
+pub mod Origins
+pub mod Passing

@@ -1,0 +1,29 @@
+-- `levels::steps::port_by_a` meets its contract: i at jack n, else what t has there, n for i.
+-- Assumes nothing.
+use mathlib.Core.Path.{sym, ap, _∙_}
+use borrow.Author.Needs.{needs}
+use Rattle.listing.specs.Numbers.{trade}
+use Rattle.listing.proofs.Numbers.{is-same, is-other}
+use Rattle.levels.proofs.steps.port_by_a.Statement.{statement}
+use Rattle.levels.proofs.steps.port_by_a.Tie as tie
+
+returns : tie.Need-returns
+returns c = let a = c .before .args in sym (is-same (a .j) (a .n) (a .i) _ (c .if1 .taken))
+
+sub-port-at : tie.Need-sub-port-at
+sub-port-at c = search needs
+
+port-at-requires : tie.Need-port-at-requires
+port-at-requires c κs = search needs
+
+traded-requires : tie.Need-traded-requires
+traded-requires c κs = search needs
+
+returns-2 : tie.Need-returns-2
+returns-2 c =
+    let a = c .before .before .before .args in
+    c .traded .ensures ∙ ap (trade (a .i) (a .n)) (c .before .port-at .ensures) ∙ sym (is-other (a .j) (a .n) (a .i) _ (c .before .before .if1 .left))
+
+pub port-by-a-spec : {M : Type 1} → statement M
+port-by-a-spec =
+    tie.close (tie.spec returns sub-port-at port-at-requires traded-requires returns-2)

@@ -1,0 +1,66 @@
+-- `levels::steps::step_b` meets its contract: each turn fills one jack more. The loop's invariant: the first j entries are the step's.
+-- Assumes nothing.
+use mathlib.Core.Path.{_≡_, refl}
+use Prim.Native.Nat.{_≤_, _-_}
+use native.Mathlib.Omega.{arith}
+use borrow.Author.Needs.{needs}
+use lib.ListN.{length, take}
+use Rattle.listing.specs.Pattern.{tabulate}
+use Rattle.listing.specs.Steps.{stepB}
+use Rattle.levels.specs.Entries.{byStepB}
+use Rattle.levels.proofs.Filling.{tabulate-stored}
+use Rattle.levels.proofs.steps.step_b.Statement.{statement}
+use Rattle.levels.proofs.steps.step_b.Tie as tie
+
+abbrev Inv-loop : tie.InvT-loop
+Inv-loop t n i u₀ j₀ u j = (j ≤ n) × (length u ≡ 20) × (take j u ≡ tabulate j (byStepB n i (take (n - 2) t)))
+
+abbrev μ-loop : tie.MeasureT-loop
+μ-loop t n i u₀ j₀ u j = n - j
+
+loop-holds : tie.Need-loop-holds Inv-loop μ-loop
+unfolding tabulate
+loop-holds c = (search needs, refl, refl)
+
+cast-at : tie.Need-cast-at Inv-loop μ-loop
+cast-at c = search needs
+
+add-port-by-b : tie.Need-add-port-by-b Inv-loop μ-loop
+add-port-by-b c = search needs
+
+port-by-b-requires : tie.Need-port-by-b-requires Inv-loop μ-loop
+port-by-b-requires c κs = search needs
+
+array-write-u : tie.Need-array-write-u Inv-loop μ-loop
+array-write-u c = search needs
+
+add-j : tie.Need-add-j Inv-loop μ-loop
+add-j c = search needs
+
+loop-less : tie.Need-loop-less Inv-loop μ-loop
+loop-less c = search needs
+
+loop-again : tie.Need-loop-again Inv-loop μ-loop
+loop-again c =
+    let l = c .before .before in
+    (search needs, search needs, tabulate-stored _ (l .loop .u) (l .loop .j) _ (omega arith) (l .loop .inv .2) (c .port-by-b .ensures))
+
+returns : tie.Need-returns Inv-loop μ-loop
+unfolding stepB
+returns c = let e : c .before .loop .j ≡ c .before .before .args .n = omega arith in rw e at (c .before .loop .inv .2)
+
+pub step-b-spec : {M : Type 1} → statement M
+step-b-spec =
+    tie.close
+    (tie.spec
+    Inv-loop
+    μ-loop
+    loop-holds
+    cast-at
+    add-port-by-b
+    port-by-b-requires
+    array-write-u
+    add-j
+    loop-less
+    loop-again
+    returns)

@@ -1,0 +1,21 @@
+// What one level hands on to the next.
+
+// The step that makes a pattern, and the rank of the shorter pattern that it is made from.
+pub enum Origin {
+    ByA(u8, u64),
+    ByB(u8, u64),
+}
+
+// The step that a pattern came by, with the entry at its last jack.
+pub enum Came {
+    ByA(u8),
+    ByB(u8),
+}
+
+// One level of a pattern's place: what is passed over, and the shorter pattern, with its ports and whether its list is read forward.
+pub struct Level {
+    pub passed: u64,
+    pub forward: bool,
+    pub ports: u8,
+    pub pattern: [u8; 20],
+}
