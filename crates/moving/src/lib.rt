@@ -1,0 +1,4 @@
+// The move from a pattern's rank to its neighbour, found and carried out on a lent slice: inner pieces for the crates above.
+pub mod tables;
+pub mod changes;
+pub mod carrying;
