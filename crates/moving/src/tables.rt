@@ -81,7 +81,7 @@ pub fn join(n: u8, i: u8) -> Move
     requires { ⌜ (4 ≤ n) × (n ≤ 20) × Among (n - 1) i ⌝ }
     ensures { λ r. ⌜ moveOf r ≡ «join» n i ⌝ }
 {
-    if n == 4 {
+    if n < 5 {
         return join_of_four(i);
     }
     match i {

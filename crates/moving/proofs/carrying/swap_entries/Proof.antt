@@ -1,12 +1,17 @@
+-- `moving::carrying::swap_entries` meets its contract: two stores make a swap.
+-- Assumes nothing.
+use native.Mathlib.Omega.{arith}
+use lib.ListN.{length-set}
+use Rattle.moving.proofs.Stores.{jacks-swapped}
 use borrow.Author.Needs.{needs}
 use Rattle.moving.proofs.carrying.swap_entries.Statement.{statement}
 use Rattle.moving.proofs.carrying.swap_entries.Tie as tie
 
 slice-write-p-2 : tie.Need-slice-write-p-2
-slice-write-p-2 c = ?
+slice-write-p-2 c = simp length-set (omega arith)
 
 returns : tie.Need-returns
-returns c = ?
+returns c = let given = c .before .before .before .before .pre in jacks-swapped _ _ _ (given .0) (given .1) (given .2)
 
 pub swap-entries-spec : {M : Type 1} → statement M
 swap-entries-spec =

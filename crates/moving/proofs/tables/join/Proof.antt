@@ -1,7 +1,7 @@
 -- `moving::tables::join` meets its contract: the rows of relations (7) and (8), the last three by what is left of n after i.
 -- Assumes nothing.
 use Prim.Native.Nat.{ℕ, _-_, _<_}
-use mathlib.Core.Path.{sym, ap, _∙_}
+use mathlib.Core.Path.{_≡_, sym, ap, _∙_}
 use mathlib.Core.Logic.{_≢_}
 use native.Mathlib.Omega.{arith}
 use Rattle.listing.specs.Numbers.{Among}
@@ -16,7 +16,7 @@ inner : (n i : ℕ) → Among (n - 1) i → n - i ≢ 1 → n - i ≢ 2 → n - 
 inner n i h a b d = omega arith
 
 returns : tie.Need-returns
-returns c = rw (c .before .if1 .taken) (c .join-of-four .ensures)
+returns c = let four : c .before .before .args .n ≡ 4 = omega arith in rw four (c .join-of-four .ensures)
 
 returns-2 : tie.Need-returns-2
 returns-2 c = rw (c .before .match .keys1) (c .first-join .ensures)
@@ -32,8 +32,7 @@ returns-5 c = sym (join-third _ _ (omega arith) (omega arith))
 
 returns-6 : tie.Need-returns-6
 returns-6 c =
-    let left = c .match2 .rest in
-    sym (join-inner _ _ (omega arith) (omega arith) (inner _ _ (c .before .before .before .pre .2) (left .0 .0 .1) (left .0 .1) (left .1)))
+    sym (join-inner _ _ (c .before .before .if1 .left) (c .before .match .rest .1) (inner _ _ (c .before .before .before .pre .2) (c .match2 .rest .0 .0 .1) (c .match2 .rest .0 .1) (c .match2 .rest .1)))
 
 pub join-spec : {M : Type 1} → statement M
 join-spec =
