@@ -1,1 +1,5 @@
+pub mod CountTable
+pub mod Leading
+pub mod Least
+pub mod Less
 pub mod Stores

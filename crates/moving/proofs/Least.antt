@@ -1,0 +1,48 @@
+-- The move from a rank for 2 and 3 ports, and its jacks for any number; the rank before.
+-- Assumes nothing.
+use mathlib.Core.Path.{_≡_, sym}
+use mathlib.Core.Logic.{_≢_}
+use Prim.Native.Nat.{ℕ, zero, suc, _-_, _≤_, _<_}
+use native.Mathlib.Omega.{arith}
+use borrow.Author.Tests.{eq-eqb, ne-eqb}
+use Rattle.listing.specs.Count.{count}
+use Rattle.listing.specs.Limits.{mostPorts}
+use Rattle.listing.specs.Orders.{one, turn, InForm}
+use Rattle.listing.specs.Joins.{closing}
+use Rattle.listing.specs.Neighbours.{previousRank, nextMove}
+use Rattle.listing.proofs.Numbers.{is-same, is-other}
+use Rattle.listing.proofs.Lifting.{form-more}
+use Rattle.listing.proofs.Neighbours.{next-leads}
+use Rattle.moving.proofs.Less.{less-one}
+
+-- ---- 2 and 3 ports
+
+pub next-of-2 : (n r : ℕ) → n ≡ 2 → closing 2 ≡ nextMove n r
+unfolding nextMove
+next-of-2 n r e = rw e
+
+pub first-of-3 : (n r : ℕ) → n ≡ 3 → r ≡ 0 → one (turn 1 2 3) ≡ nextMove n r
+unfolding nextMove
+first-of-3 n r e h = rw (e, eq-eqb r 0 h)
+
+pub last-of-3 : (n r : ℕ) → n ≡ 3 → r ≢ 0 → closing 3 ≡ nextMove n r
+unfolding nextMove
+last-of-3 n r e h = rw (e, ne-eqb r 0 h)
+
+-- ---- any number
+
+-- the jacks of the move are jacks of the device
+pub next-form : (n r : ℕ) → 2 ≤ n → n ≤ mostPorts → r < count n → InForm mostPorts (nextMove n r)
+next-form zero r h l b = absurd (omega arith)
+next-form (suc zero) r h l b = absurd (omega arith)
+next-form (suc (suc m)) r h l b = form-more (suc (suc m)) mostPorts (nextMove (suc (suc m)) r) l (next-leads m r b .form)
+
+-- before the first rank comes the last
+pub before-first : (n r : ℕ) → r ≡ 0 → count n - 1 ≡ previousRank n r
+unfolding previousRank
+before-first n r e = rw (is-same r 0 _ _ e, less-one (count n))
+
+-- before any other the one before
+pub before-other : (n r : ℕ) → r ≢ 0 → r - 1 ≡ previousRank n r
+unfolding previousRank
+before-other n r d = rw (is-other r 0 _ _ d, less-one r)
