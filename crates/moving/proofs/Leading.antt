@@ -4,14 +4,17 @@ use mathlib.Core.Path.{_≡_, sym, ap, _∙_}
 use mathlib.Core.Logic.{_≢_}
 use mathlib.Core.Bool.{true, false, cond}
 use Prim.Native.Nat.{ℕ, zero, suc, _+_, _-_, _/_, _%_, _≤_, _<_}
+use native.Mathlib.Nat.{mod-lt}
 use native.Mathlib.Omega.{arith}
 use borrow.Author.Tests.{lt-ltb, le-ltb, eq-eqb, ne-eqb}
 use Rattle.listing.specs.Numbers.{Among, before}
 use Rattle.listing.specs.Count.{count}
 use Rattle.listing.specs.Rank.{perBlock}
+use Rattle.listing.specs.Limits.{mostPorts, largest64}
 use Rattle.listing.specs.Orders.{Move, inverse, raised}
 use Rattle.listing.specs.Neighbours.{inside, onFrom, nextMove}
 use Rattle.listing.proofs.Numbers.{odd-rest}
+use Rattle.listing.proofs.Limits.{count-most}
 use Rattle.listing.proofs.Ranks.{perBlock-pos, block-among}
 use Rattle.listing.proofs.Neighbours.{move-rule}
 use Rattle.moving.specs.Lead.{stepMove, Inside, LeadsOn}
@@ -20,6 +23,25 @@ use Rattle.moving.specs.declared.onward.Step.{Step}
 use Rattle.moving.specs.declared.onward.Step.the-variants.{ByA, ByTable, ByB}
 use Rattle.moving.specs.declared.onward.Lead.{Lead}
 use Rattle.moving.proofs.Less.{less-one, less-two}
+
+-- ---- the patterns of a block
+
+-- they are no more than 64 bits can count
+pub block-most : (n : ℕ) → n ≤ mostPorts → perBlock n ≤ largest64
+block-most n h =
+    omega (
+      arith,
+      count-most (before n) (omega (arith, less-one n)),
+      count-most (before (before n)) (omega (arith, less-two n)),
+    )
+
+-- a of them come by A and b by B: past the last by A, at least two by B are left from there on
+pub room-B : (n u a b : ℕ) → a ≡ count (n - 1) → b ≡ count (n - 2) → a ≤ u + 1 → u + 1 ≢ a → u + 1 < perBlock n → (a ≤ u) × (2 ≤ b) × (u - a ≤ b - 2)
+room-B n u a b ea eb h d room =
+    let all-a : a ≡ count (before n) = ea ∙ ap count (less-one n) in
+    let all-b : b ≡ count (before (before n)) = eb ∙ ap count (less-two n) in
+    let past : a ≤ u = omega arith in
+    (past, omega arith, omega arith)
 
 -- ---- inside a block: a patterns come by A, and b by B
 
@@ -96,13 +118,13 @@ module _ (n i s : ℕ) where
 
 -- ---- from a rank
 
--- a block has patterns, and a rank is in one of the blocks 1 .. n - 1
-pub block-of : (n r : ℕ) → 4 ≤ n → r < count n → (0 < perBlock n) × Among (n - 1) (suc (r / perBlock n))
-block-of zero r h l = absurd (omega arith)
-block-of (suc zero) r h l = absurd (omega arith)
-block-of (suc (suc m)) r h l =
-    let e : suc (suc m) - 1 ≡ suc m = omega arith in
-    (perBlock-pos m r l, rw e (block-among m r l))
+-- a block has patterns, and a rank has a place in one of the blocks 1 .. n - 1
+pub in-block : (n r size : ℕ) → 4 ≤ n → r < count n → size ≡ perBlock n → (0 < size) × Among (n - 1) (r / size + 1) × (r % size < perBlock n)
+in-block zero r size h l e = absurd (omega arith)
+in-block (suc zero) r size h l e = absurd (omega arith)
+in-block (suc (suc m)) r size h l e =
+    let some = perBlock-pos m r l in
+    rw e (some, omega (arith, block-among m r l), mod-lt r some)
 
 -- the move at a rank, by its block and its place there
 next-rule : (n r : ℕ) → 4 ≤ n → nextMove n r ≡ onFrom n (nextMove (n - 1)) (nextMove (n - 2)) (suc (r / perBlock n)) (r % perBlock n)

@@ -67,7 +67,7 @@ pub fn next_move(n: u8, r: u64) -> Move
 
 // The rank before r round the circuit.
 fn rank_before(n: u8, r: u64) -> u64
-    requires { ⌜ (2 ≤ n) × (n ≤ mostPorts) ⌝ }
+    requires { ⌜ (2 ≤ n) × (n ≤ mostPorts) × (r < count n) ⌝ }
     ensures { λ q. ⌜ q ≡ previousRank n r ⌝ }
 {
     if r == 0 {

@@ -1,405 +1,117 @@
+-- `moving::neighbours::next_move` meets its contract: the number of ports falls at each call, and the lead says which move it is.
+-- Assumes nothing.
+use mathlib.Core.Path.{ap, _∙_}
 use Prim.Native.Nat.{ℕ, _<_}
+use native.Mathlib.Omega.{arith}
+use borrow.Author.Needs.{needs}
 use borrow.Fn.Kinds.{In}
 use borrow.Fn.PlainCycle.{Measures, is, falls, and}
-use Rattle.moving.proofs.neighbours.next_move.Reads as next-move
-use Rattle.moving.proofs.neighbours.next_move.Kinds as next-move-kinds
-use Rattle.moving.proofs.neighbours.+next_move.Lts-next_move as next-move-lts
-use Rattle.moving.proofs.changes.inverse_of.Reads as inverse-of-reads
-use Rattle.moving.proofs.changes.raised_by.Reads as raised-by-reads
-use Rattle.moving.proofs.neighbours.inverse_if.Reads as inverse-if-reads
-use Rattle.moving.proofs.neighbours.least_move.Reads as least-move-reads
-use Rattle.moving.proofs.neighbours.row_move.Reads as row-move-reads
-use Rattle.moving.proofs.onward.onward.Reads as onward-reads
+use Rattle.listing.specs.Orders.{inverse, raised}
+use Rattle.words.specs.Meaning.{moveOf}
+use Rattle.moving.proofs.Leading.{lead-next}
+use Rattle.moving.proofs.Least.{next-form}
+use Rattle.moving.proofs.neighbours.next_move.Reads as reads
+use Rattle.moving.proofs.neighbours.next_move.Kinds as kinds
+use Rattle.moving.proofs.neighbours.+next_move.Lts-next_move as lts
+use Rattle.moving.proofs.changes.inverse_of.Reads as inverse-of
+use Rattle.moving.proofs.changes.raised_by.Reads as raised-by
+use Rattle.moving.proofs.neighbours.inverse_if.Reads as inverse-if
+use Rattle.moving.proofs.neighbours.least_move.Reads as least-move
+use Rattle.moving.proofs.neighbours.row_move.Reads as row-move
+use Rattle.moving.proofs.onward.onward.Reads as onward
 use Rattle.moving.proofs.neighbours.+next_move.{statement}
 use Rattle.moving.proofs.neighbours.+next_move.Tie.{close}
 
-abbrev μ-next-move : Measures 0 next-move-kinds.ps ℕ
-μ-next-move κs a = ?
+-- the number of ports
+abbrev ports : Measures 0 kinds.ps ℕ
+ports κs a = a .0
 
-abbrev next-move-at : ℕ → In 0 next-move-kinds.ps
-next-move-at t = and 0 next-move-kinds.ps (is 0 next-move-kinds.ps μ-next-move t) next-move.Pre
+-- a call for t ports, and a call for fewer
+abbrev here : ℕ → In 0 kinds.ps
+here t = and 0 kinds.ps (is 0 kinds.ps ports t) reads.Pre
 
-abbrev next-move-below : ℕ → In 0 next-move-kinds.ps
-next-move-below t =
-    and 0 next-move-kinds.ps (falls 0 next-move-kinds.ps _<_ μ-next-move t) next-move.Pre
+abbrev below : ℕ → In 0 kinds.ps
+below t = and 0 kinds.ps (falls 0 kinds.ps _<_ ports t) reads.Pre
 
-next-move-least-move-requires : (t : ℕ) → next-move-lts.Need-least-move-requires (
-  least-move-reads.Asked,
-  least-move-reads.Learnt,
-  onward-reads.Asked,
-  onward-reads.Learnt,
-  next-move-below t,
-  next-move.Post,
-  inverse-if-reads.Asked,
-  inverse-if-reads.Learnt,
-  row-move-reads.Asked,
-  row-move-reads.Learnt,
-  raised-by-reads.Asked,
-  raised-by-reads.Learnt,
-  inverse-of-reads.Asked,
-  inverse-of-reads.Learnt,
-) (next-move-at t) next-move.Post
-next-move-least-move-requires t c κs = ?
+-- what is asked and learnt at the calls
+abbrev calls : ℕ → lts.Claims
+calls t = (
+  least-move.Asked,
+  least-move.Learnt,
+  onward.Asked,
+  onward.Learnt,
+  below t,
+  reads.Post,
+  inverse-if.Asked,
+  inverse-if.Learnt,
+  row-move.Asked,
+  row-move.Learnt,
+  raised-by.Asked,
+  raised-by.Learnt,
+  inverse-of.Asked,
+  inverse-of.Learnt,
+)
 
-next-move-returns : (t : ℕ) → next-move-lts.Need-returns (
-  least-move-reads.Asked,
-  least-move-reads.Learnt,
-  onward-reads.Asked,
-  onward-reads.Learnt,
-  next-move-below t,
-  next-move.Post,
-  inverse-if-reads.Asked,
-  inverse-if-reads.Learnt,
-  row-move-reads.Asked,
-  row-move-reads.Learnt,
-  raised-by-reads.Asked,
-  raised-by-reads.Learnt,
-  inverse-of-reads.Asked,
-  inverse-of-reads.Learnt,
-) (next-move-at t) next-move.Post
-next-move-returns t c = ?
+-- ---- the ranks in the shorter lists, and the rows of the tables
 
-next-move-onward-requires : (t : ℕ) → next-move-lts.Need-onward-requires (
-  least-move-reads.Asked,
-  least-move-reads.Learnt,
-  onward-reads.Asked,
-  onward-reads.Learnt,
-  next-move-below t,
-  next-move.Post,
-  inverse-if-reads.Asked,
-  inverse-if-reads.Learnt,
-  row-move-reads.Asked,
-  row-move-reads.Learnt,
-  raised-by-reads.Asked,
-  raised-by-reads.Learnt,
-  inverse-of-reads.Asked,
-  inverse-of-reads.Learnt,
-) (next-move-at t) next-move.Post
-next-move-onward-requires t c κs = ?
+next-move-requires : (t : ℕ) → lts.Need-next-move-requires (calls t) (here t) reads.Post
+next-move-requires t c κs = let rank = rw (c .before .step .given .1) at (c .before .before .before .onward .ensures .within) in omega arith
 
-next-move-enum-known-step : (t : ℕ) → next-move-lts.Need-enum-known-step (
-  least-move-reads.Asked,
-  least-move-reads.Learnt,
-  onward-reads.Asked,
-  onward-reads.Learnt,
-  next-move-below t,
-  next-move.Post,
-  inverse-if-reads.Asked,
-  inverse-if-reads.Learnt,
-  row-move-reads.Asked,
-  row-move-reads.Learnt,
-  raised-by-reads.Asked,
-  raised-by-reads.Learnt,
-  inverse-of-reads.Asked,
-  inverse-of-reads.Learnt,
-) (next-move-at t) next-move.Post
-next-move-enum-known-step t c = ?
+row-move-requires : (t : ℕ) → lts.Need-row-move-requires (calls t) (here t) reads.Post
+row-move-requires t c κs = (omega arith, omega arith, rw (c .before .step2 .given .1) at (c .before .before .before .onward .ensures .within))
 
-next-move-sub-next-move : (t : ℕ) → next-move-lts.Need-sub-next-move (
-  least-move-reads.Asked,
-  least-move-reads.Learnt,
-  onward-reads.Asked,
-  onward-reads.Learnt,
-  next-move-below t,
-  next-move.Post,
-  inverse-if-reads.Asked,
-  inverse-if-reads.Learnt,
-  row-move-reads.Asked,
-  row-move-reads.Learnt,
-  raised-by-reads.Asked,
-  raised-by-reads.Learnt,
-  inverse-of-reads.Asked,
-  inverse-of-reads.Learnt,
-) (next-move-at t) next-move.Post
-next-move-sub-next-move t c = ?
+next-move-requires-2 : (t : ℕ) → lts.Need-next-move-requires-2 (calls t) (here t) reads.Post
+next-move-requires-2 t c κs = let rank = rw (c .before .step3 .given .1) at (c .before .before .before .onward .ensures .within) in omega arith
 
-next-move-next-move-requires : (t : ℕ) → next-move-lts.Need-next-move-requires (
-  least-move-reads.Asked,
-  least-move-reads.Learnt,
-  onward-reads.Asked,
-  onward-reads.Learnt,
-  next-move-below t,
-  next-move.Post,
-  inverse-if-reads.Asked,
-  inverse-if-reads.Learnt,
-  row-move-reads.Asked,
-  row-move-reads.Learnt,
-  raised-by-reads.Asked,
-  raised-by-reads.Learnt,
-  inverse-of-reads.Asked,
-  inverse-of-reads.Learnt,
-) (next-move-at t) next-move.Post
-next-move-next-move-requires t c κs = ?
+raised-by-requires : (t : ℕ) → lts.Need-raised-by-requires (calls t) (here t) reads.Post
+raised-by-requires t c κs =
+    let rank = rw (c .before .before .step3 .given .1) at (c .before .before .before .before .onward .ensures .within) in
+    rw (c .next-move2 .ensures) (next-form _ _ (omega arith) (omega arith) (rank .1))
 
-next-move-inverse-if-requires : (t : ℕ) → next-move-lts.Need-inverse-if-requires (
-  least-move-reads.Asked,
-  least-move-reads.Learnt,
-  onward-reads.Asked,
-  onward-reads.Learnt,
-  next-move-below t,
-  next-move.Post,
-  inverse-if-reads.Asked,
-  inverse-if-reads.Learnt,
-  row-move-reads.Asked,
-  row-move-reads.Learnt,
-  raised-by-reads.Asked,
-  raised-by-reads.Learnt,
-  inverse-of-reads.Asked,
-  inverse-of-reads.Learnt,
-) (next-move-at t) next-move.Post
-next-move-inverse-if-requires t c κs = ?
+-- ---- the answers
 
-next-move-enum-known-step-2 : (t : ℕ) → next-move-lts.Need-enum-known-step-2 (
-  least-move-reads.Asked,
-  least-move-reads.Learnt,
-  onward-reads.Asked,
-  onward-reads.Learnt,
-  next-move-below t,
-  next-move.Post,
-  inverse-if-reads.Asked,
-  inverse-if-reads.Learnt,
-  row-move-reads.Asked,
-  row-move-reads.Learnt,
-  raised-by-reads.Asked,
-  raised-by-reads.Learnt,
-  inverse-of-reads.Asked,
-  inverse-of-reads.Learnt,
-) (next-move-at t) next-move.Post
-next-move-enum-known-step-2 t c = ?
+returns-2 : (t : ℕ) → lts.Need-returns-2 (calls t) (here t) reads.Post
+returns-2 t c =
+    let led = c .before .before .before .before .before .onward in
+    c .inverse-if .ensures
+    ∙ lead-next _ _ (led .result) (moveOf (c .before .next-move .result)) (omega arith) (led .ensures)
+    (rw (c .before .before .before .step .given .1) (c .before .next-move .ensures))
 
-next-move-row-move-requires : (t : ℕ) → next-move-lts.Need-row-move-requires (
-  least-move-reads.Asked,
-  least-move-reads.Learnt,
-  onward-reads.Asked,
-  onward-reads.Learnt,
-  next-move-below t,
-  next-move.Post,
-  inverse-if-reads.Asked,
-  inverse-if-reads.Learnt,
-  row-move-reads.Asked,
-  row-move-reads.Learnt,
-  raised-by-reads.Asked,
-  raised-by-reads.Learnt,
-  inverse-of-reads.Asked,
-  inverse-of-reads.Learnt,
-) (next-move-at t) next-move.Post
-next-move-row-move-requires t c κs = ?
+returns-3 : (t : ℕ) → lts.Need-returns-3 (calls t) (here t) reads.Post
+returns-3 t c =
+    let led = c .before .before .before .before .before .onward in
+    c .inverse-if2 .ensures
+    ∙ lead-next _ _ (led .result) (moveOf (c .before .row-move .result)) (omega arith) (led .ensures)
+    (rw (c .before .before .before .step2 .given .1) (c .before .row-move .ensures))
 
-next-move-inverse-if-requires-2 : (t : ℕ) → next-move-lts.Need-inverse-if-requires-2 (
-  least-move-reads.Asked,
-  least-move-reads.Learnt,
-  onward-reads.Asked,
-  onward-reads.Learnt,
-  next-move-below t,
-  next-move.Post,
-  inverse-if-reads.Asked,
-  inverse-if-reads.Learnt,
-  row-move-reads.Asked,
-  row-move-reads.Learnt,
-  raised-by-reads.Asked,
-  raised-by-reads.Learnt,
-  inverse-of-reads.Asked,
-  inverse-of-reads.Learnt,
-) (next-move-at t) next-move.Post
-next-move-inverse-if-requires-2 t c κs = ?
-
-next-move-enum-known-step-3 : (t : ℕ) → next-move-lts.Need-enum-known-step-3 (
-  least-move-reads.Asked,
-  least-move-reads.Learnt,
-  onward-reads.Asked,
-  onward-reads.Learnt,
-  next-move-below t,
-  next-move.Post,
-  inverse-if-reads.Asked,
-  inverse-if-reads.Learnt,
-  row-move-reads.Asked,
-  row-move-reads.Learnt,
-  raised-by-reads.Asked,
-  raised-by-reads.Learnt,
-  inverse-of-reads.Asked,
-  inverse-of-reads.Learnt,
-) (next-move-at t) next-move.Post
-next-move-enum-known-step-3 t c = ?
-
-next-move-sub-next-move-2 : (t : ℕ) → next-move-lts.Need-sub-next-move-2 (
-  least-move-reads.Asked,
-  least-move-reads.Learnt,
-  onward-reads.Asked,
-  onward-reads.Learnt,
-  next-move-below t,
-  next-move.Post,
-  inverse-if-reads.Asked,
-  inverse-if-reads.Learnt,
-  row-move-reads.Asked,
-  row-move-reads.Learnt,
-  raised-by-reads.Asked,
-  raised-by-reads.Learnt,
-  inverse-of-reads.Asked,
-  inverse-of-reads.Learnt,
-) (next-move-at t) next-move.Post
-next-move-sub-next-move-2 t c = ?
-
-next-move-next-move-requires-2 : (t : ℕ) → next-move-lts.Need-next-move-requires-2 (
-  least-move-reads.Asked,
-  least-move-reads.Learnt,
-  onward-reads.Asked,
-  onward-reads.Learnt,
-  next-move-below t,
-  next-move.Post,
-  inverse-if-reads.Asked,
-  inverse-if-reads.Learnt,
-  row-move-reads.Asked,
-  row-move-reads.Learnt,
-  raised-by-reads.Asked,
-  raised-by-reads.Learnt,
-  inverse-of-reads.Asked,
-  inverse-of-reads.Learnt,
-) (next-move-at t) next-move.Post
-next-move-next-move-requires-2 t c κs = ?
-
-next-move-raised-by-requires : (t : ℕ) → next-move-lts.Need-raised-by-requires (
-  least-move-reads.Asked,
-  least-move-reads.Learnt,
-  onward-reads.Asked,
-  onward-reads.Learnt,
-  next-move-below t,
-  next-move.Post,
-  inverse-if-reads.Asked,
-  inverse-if-reads.Learnt,
-  row-move-reads.Asked,
-  row-move-reads.Learnt,
-  raised-by-reads.Asked,
-  raised-by-reads.Learnt,
-  inverse-of-reads.Asked,
-  inverse-of-reads.Learnt,
-) (next-move-at t) next-move.Post
-next-move-raised-by-requires t c κs = ?
-
-next-move-inverse-of-requires : (t : ℕ) → next-move-lts.Need-inverse-of-requires (
-  least-move-reads.Asked,
-  least-move-reads.Learnt,
-  onward-reads.Asked,
-  onward-reads.Learnt,
-  next-move-below t,
-  next-move.Post,
-  inverse-if-reads.Asked,
-  inverse-if-reads.Learnt,
-  row-move-reads.Asked,
-  row-move-reads.Learnt,
-  raised-by-reads.Asked,
-  raised-by-reads.Learnt,
-  inverse-of-reads.Asked,
-  inverse-of-reads.Learnt,
-) (next-move-at t) next-move.Post
-next-move-inverse-of-requires t c κs = ?
-
-next-move-inverse-if-requires-3 : (t : ℕ) → next-move-lts.Need-inverse-if-requires-3 (
-  least-move-reads.Asked,
-  least-move-reads.Learnt,
-  onward-reads.Asked,
-  onward-reads.Learnt,
-  next-move-below t,
-  next-move.Post,
-  inverse-if-reads.Asked,
-  inverse-if-reads.Learnt,
-  row-move-reads.Asked,
-  row-move-reads.Learnt,
-  raised-by-reads.Asked,
-  raised-by-reads.Learnt,
-  inverse-of-reads.Asked,
-  inverse-of-reads.Learnt,
-) (next-move-at t) next-move.Post
-next-move-inverse-if-requires-3 t c κs = ?
-
-next-move-returns-2 : (t : ℕ) → next-move-lts.Need-returns-2 (
-  least-move-reads.Asked,
-  least-move-reads.Learnt,
-  onward-reads.Asked,
-  onward-reads.Learnt,
-  next-move-below t,
-  next-move.Post,
-  inverse-if-reads.Asked,
-  inverse-if-reads.Learnt,
-  row-move-reads.Asked,
-  row-move-reads.Learnt,
-  raised-by-reads.Asked,
-  raised-by-reads.Learnt,
-  inverse-of-reads.Asked,
-  inverse-of-reads.Learnt,
-) (next-move-at t) next-move.Post
-next-move-returns-2 t c = ?
-
-next-move-returns-3 : (t : ℕ) → next-move-lts.Need-returns-3 (
-  least-move-reads.Asked,
-  least-move-reads.Learnt,
-  onward-reads.Asked,
-  onward-reads.Learnt,
-  next-move-below t,
-  next-move.Post,
-  inverse-if-reads.Asked,
-  inverse-if-reads.Learnt,
-  row-move-reads.Asked,
-  row-move-reads.Learnt,
-  raised-by-reads.Asked,
-  raised-by-reads.Learnt,
-  inverse-of-reads.Asked,
-  inverse-of-reads.Learnt,
-) (next-move-at t) next-move.Post
-next-move-returns-3 t c = ?
-
-next-move-returns-4 : (t : ℕ) → next-move-lts.Need-returns-4 (
-  least-move-reads.Asked,
-  least-move-reads.Learnt,
-  onward-reads.Asked,
-  onward-reads.Learnt,
-  next-move-below t,
-  next-move.Post,
-  inverse-if-reads.Asked,
-  inverse-if-reads.Learnt,
-  row-move-reads.Asked,
-  row-move-reads.Learnt,
-  raised-by-reads.Asked,
-  raised-by-reads.Learnt,
-  inverse-of-reads.Asked,
-  inverse-of-reads.Learnt,
-) (next-move-at t) next-move.Post
-next-move-returns-4 t c = ?
+returns-4 : (t : ℕ) → lts.Need-returns-4 (calls t) (here t) reads.Post
+returns-4 t c =
+    let raised-move = c .before .before .raised-by .ensures ∙ ap (raised _) (c .before .before .before .next-move2 .ensures) in
+    let led = c .before .before .before .before .before .before .before .onward in
+    c .inverse-if3 .ensures
+    ∙ lead-next _ _ (led .result) (moveOf (c .before .inverse-of .result)) (omega arith) (led .ensures)
+    (rw (c .before .before .before .before .before .step3 .given .1) (c .before .inverse-of .ensures ∙ ap inverse raised-move))
 
 pub +next-move-spec : {M : Type 1} → statement M
-+next-move-spec = close μ-next-move λ t. next-move-lts.spec (
-  least-move-reads.Asked,
-  least-move-reads.Learnt,
-  onward-reads.Asked,
-  onward-reads.Learnt,
-  next-move-below t,
-  next-move.Post,
-  inverse-if-reads.Asked,
-  inverse-if-reads.Learnt,
-  row-move-reads.Asked,
-  row-move-reads.Learnt,
-  raised-by-reads.Asked,
-  raised-by-reads.Learnt,
-  inverse-of-reads.Asked,
-  inverse-of-reads.Learnt,
-)
-    (next-move-at t)
-    next-move.Post
-    (next-move-least-move-requires t)
-    (next-move-returns t)
-    (next-move-onward-requires t)
-    (next-move-enum-known-step t)
-    (next-move-sub-next-move t)
-    (next-move-next-move-requires t)
-    (next-move-inverse-if-requires t)
-    (next-move-enum-known-step-2 t)
-    (next-move-row-move-requires t)
-    (next-move-inverse-if-requires-2 t)
-    (next-move-enum-known-step-3 t)
-    (next-move-sub-next-move-2 t)
-    (next-move-next-move-requires-2 t)
-    (next-move-raised-by-requires t)
-    (next-move-inverse-of-requires t)
-    (next-move-inverse-if-requires-3 t)
-    (next-move-returns-2 t)
-    (next-move-returns-3 t)
-    (next-move-returns-4 t)
++next-move-spec =
+    close ports λ t.
+    lts.spec (calls t) (here t) reads.Post
+    (λ c κs. search needs)
+    (λ c. c .least-move .ensures)
+    (λ c κs. search needs)
+    (λ c. search needs)
+    (λ c. search needs)
+    (next-move-requires t)
+    (λ c κs. search needs)
+    (λ c. search needs)
+    (row-move-requires t)
+    (λ c κs. search needs)
+    (λ c. search needs)
+    (λ c. search needs)
+    (next-move-requires-2 t)
+    (raised-by-requires t)
+    (λ c κs. search needs)
+    (λ c κs. search needs)
+    (returns-2 t)
+    (returns-3 t)
+    (returns-4 t)

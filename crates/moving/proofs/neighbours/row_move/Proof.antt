@@ -1,21 +1,24 @@
+-- `moving::neighbours::row_move` meets its contract: each row has its function.
+-- Assumes nothing.
+use native.Mathlib.Omega.{arith}
 use borrow.Author.Needs.{needs}
 use Rattle.moving.proofs.neighbours.row_move.Statement.{statement}
 use Rattle.moving.proofs.neighbours.row_move.Tie as tie
 
 join-requires : tie.Need-join-requires
-join-requires c κs = ?
+join-requires c κs = let fits = rw (c .before .w .given .1) at (c .before .before .before .pre .2) in omega arith
 
 hop-requires : tie.Need-hop-requires
-hop-requires c κs = ?
+hop-requires c κs = let fits = rw (c .before .w2 .given .1) at (c .before .before .before .pre .2) in omega arith
 
 returns : tie.Need-returns
-returns c = ?
+returns c = rw (c .before .before .w .given .1) (c .join .ensures)
 
 returns-2 : tie.Need-returns-2
-returns-2 c = ?
+returns-2 c = rw (c .before .before .w2 .given .1) (c .hop .ensures)
 
 returns-3 : tie.Need-returns-3
-returns-3 c = ?
+returns-3 c = rw (c .before .enum-told .given .1) (c .closing .ensures)
 
 pub row-move-spec : {M : Type 1} → statement M
 row-move-spec =
