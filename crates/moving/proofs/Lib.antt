@@ -2,4 +2,3 @@ pub mod CountTable
 pub mod Leading
 pub mod Least
 pub mod Less
-pub mod Stores

@@ -1,7 +1,4 @@
-// The move from a pattern's rank to its neighbour, found and carried out on a lent slice: inner pieces for the crates above.
-pub mod tables;
-pub mod changes;
+// The move from the pattern of a rank to its neighbours round the circuit: inner pieces for the crates above.
 mod counts;
-pub mod onward;
+mod onward;
 pub mod neighbours;
-pub mod carrying;

@@ -1,8 +1,8 @@
 // The move from the pattern of a rank to its neighbours round the circuit.
-use crate::changes::{inverse_of, raised_by};
+use joins::changes::{inverse_of, raised_by};
 use crate::counts::count_of;
 use crate::onward::{Row, Step, onward};
-use crate::tables::{closing, hop, join};
+use joins::tables::{closing, hop, join};
 use words::{Jack, Move, Order};
 ghost use mathlib.Core.Path.{_≡_};
 ghost use mathlib.Core.Bool.{cond};

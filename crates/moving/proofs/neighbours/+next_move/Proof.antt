@@ -13,8 +13,8 @@ use Rattle.moving.proofs.Least.{next-form}
 use Rattle.moving.proofs.neighbours.next_move.Reads as reads
 use Rattle.moving.proofs.neighbours.next_move.Kinds as kinds
 use Rattle.moving.proofs.neighbours.+next_move.Lts-next_move as lts
-use Rattle.moving.proofs.changes.inverse_of.Reads as inverse-of
-use Rattle.moving.proofs.changes.raised_by.Reads as raised-by
+use Rattle.joins.proofs.changes.inverse_of.Reads as inverse-of
+use Rattle.joins.proofs.changes.raised_by.Reads as raised-by
 use Rattle.moving.proofs.neighbours.inverse_if.Reads as inverse-if
 use Rattle.moving.proofs.neighbours.least_move.Reads as least-move
 use Rattle.moving.proofs.neighbours.row_move.Reads as row-move

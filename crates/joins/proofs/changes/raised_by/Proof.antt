@@ -1,0 +1,44 @@
+-- `joins::changes::raised_by` meets its contract: each jack of the move is raised.
+-- Assumes nothing.
+use native.Mathlib.Omega.{arith}
+use mathlib.Core.Path.{ap}
+use borrow.Author.Needs.{needs}
+use Rattle.joins.proofs.changes.raised_by.Statement.{statement}
+use Rattle.joins.proofs.changes.raised_by.Tie as tie
+
+raised-order-requires : tie.Need-raised-order-requires
+raised-order-requires c κs = rw (c .before .m .given .1) at (c .before .before .before .pre)
+
+raised-jack-requires : tie.Need-raised-jack-requires
+raised-jack-requires c κs = let s = rw (c .before .m2 .given .1) at (c .before .before .before .pre) in omega arith
+
+raised-jack-requires-2 : tie.Need-raised-jack-requires-2
+raised-jack-requires-2 c κs = let s = rw (c .before .before .m2 .given .1) at (c .before .before .before .before .pre) in omega arith
+
+raised-jack-requires-3 : tie.Need-raised-jack-requires-3
+raised-jack-requires-3 c κs = let s = rw (c .before .before .before .m2 .given .1) at (c .before .before .before .before .before .pre) in omega arith
+
+raised-jack-requires-4 : tie.Need-raised-jack-requires-4
+raised-jack-requires-4 c κs = let s = rw (c .before .before .before .before .m2 .given .1) at (c .before .before .before .before .before .before .pre) in omega arith
+
+returns-2 : tie.Need-returns-2
+returns-2 c = rw (c .before .before .m .given .1) (cc)
+
+returns-3 : tie.Need-returns-3
+returns-3 c = rw (c .before .before .before .before .before .m2 .given .1) (cc)
+
+pub raised-by-spec : {M : Type 1} → statement M
+raised-by-spec =
+    tie.close
+    (tie.spec
+    (λ c. search needs)
+    (λ c. search needs)
+    raised-order-requires
+    (λ c. search needs)
+    raised-jack-requires
+    raised-jack-requires-2
+    raised-jack-requires-3
+    raised-jack-requires-4
+    (λ c. search needs)
+    returns-2
+    returns-3)
