@@ -1,5 +1,7 @@
 // Orders and moves carried out on a lent panel.
-use words::{Jack, Move, Order};
+use words::Jack;
+use words::Move;
+use words::Order;
 ghost use mathlib.Core.Path.{_≡_};
 ghost use mathlib.Core.Logic.{_≢_};
 ghost use lib.ListN.{length};

@@ -1,5 +1,7 @@
 // A move turned round, and a move on the jacks of a longer pattern.
-use words::{Jack, Move, Order};
+use words::Jack;
+use words::Move;
+use words::Order;
 ghost use mathlib.Core.Path.{_≡_};
 ghost use Prim.Native.Nat.{_≤_};
 ghost use Rattle.listing.specs.Numbers.{raise};
@@ -36,7 +38,11 @@ fn raised_order(i: u8, o: Order) -> Order
 {
     match o {
         Order::Swap(a, b) => Order::Swap(raised_jack(i, a), raised_jack(i, b)),
-        Order::Turn(a, b, c) => Order::Turn(raised_jack(i, a), raised_jack(i, b), raised_jack(i, c)),
+        Order::Turn(a, b, c) => Order::Turn(
+            raised_jack(i, a),
+            raised_jack(i, b),
+            raised_jack(i, c),
+        ),
     }
 }
 
@@ -48,6 +54,11 @@ pub fn raised_by(i: u8, m: Move) -> Move
     match m {
         Move::Nothing => m,
         Move::One(o) => Move::One(raised_order(i, o)),
-        Move::Two(a, b, c, d) => Move::Two(raised_jack(i, a), raised_jack(i, b), raised_jack(i, c), raised_jack(i, d)),
+        Move::Two(a, b, c, d) => Move::Two(
+            raised_jack(i, a),
+            raised_jack(i, b),
+            raised_jack(i, c),
+            raised_jack(i, d),
+        ),
     }
 }

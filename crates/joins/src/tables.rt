@@ -1,5 +1,7 @@
 // The tables of the moves between the parts of the list, by n and the block number i: relations (3), (5), (7), (8) and the closing step.
-use words::{Jack, Move, Order};
+use words::Jack;
+use words::Move;
+use words::Order;
 ghost use mathlib.Core.Path.{_≡_};
 ghost use Prim.Native.Nat.{_-_, _≤_};
 ghost use Rattle.listing.specs.Numbers.{Among};
@@ -9,7 +11,7 @@ ghost use Rattle.words.specs.Meaning.{moveOf};
 
 // From A(i) to A(i+1) of the first pattern of n - 1: relation (5).
 fn hop_a(n: u8, i: u8) -> Move
-    requires { ⌜ (4 ≤ n) × (n ≤ mostPorts) × (1 ≤ i) × (i ≤ n - 2) ⌝ }
+    requires { ⌜ (4 ≤ n) × (n ≤ mostPorts) × Among (n - 2) i ⌝ }
     ensures { λ r. ⌜ moveOf r ≡ hopA n i ⌝ }
 {
     match i {
@@ -20,7 +22,7 @@ fn hop_a(n: u8, i: u8) -> Move
 
 // From B(i) to B(i+1) of the first pattern of n - 2: relation (3).
 fn hop_b(n: u8, i: u8) -> Move
-    requires { ⌜ (4 ≤ n) × (n ≤ mostPorts) × (1 ≤ i) × (i ≤ n - 2) ⌝ }
+    requires { ⌜ (4 ≤ n) × (n ≤ mostPorts) × Among (n - 2) i ⌝ }
     ensures { λ r. ⌜ moveOf r ≡ hopB n i ⌝ }
 {
     match i {
@@ -31,14 +33,10 @@ fn hop_b(n: u8, i: u8) -> Move
 
 // From block i to block i + 1: after an odd block by B, after an even one by A.
 pub fn hop(n: u8, i: u8) -> Move
-    requires { ⌜ (4 ≤ n) × (n ≤ mostPorts) × (1 ≤ i) × (i ≤ n - 2) ⌝ }
+    requires { ⌜ (4 ≤ n) × (n ≤ mostPorts) × Among (n - 2) i ⌝ }
     ensures { λ r. ⌜ moveOf r ≡ hop n i ⌝ }
 {
-    if i % 2 == 1 {
-        hop_b(n, i)
-    } else {
-        hop_a(n, i)
-    }
+    if i % 2 == 1 { hop_b(n, i) } else { hop_a(n, i) }
 }
 
 // Inside block i of the list for 4 ports: relation (7).

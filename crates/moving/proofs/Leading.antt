@@ -35,15 +35,7 @@ block-most n h =
       count-most (before (before n)) (omega (arith, less-two n)),
     )
 
--- a of them come by A and b by B: past the last by A, at least two by B are left from there on
-pub room-B : (n u a b : ℕ) → a ≡ count (n - 1) → b ≡ count (n - 2) → a ≤ u + 1 → u + 1 ≢ a → u + 1 < perBlock n → (a ≤ u) × (2 ≤ b) × (u - a ≤ b - 2)
-room-B n u a b ea eb h d room =
-    let all-a : a ≡ count (before n) = ea ∙ ap count (less-one n) in
-    let all-b : b ≡ count (before (before n)) = eb ∙ ap count (less-two n) in
-    let past : a ≤ u = omega arith in
-    (past, omega arith, omega arith)
-
--- ---- inside a block: a patterns come by A, and b by B
+-- ---- inside a block, of which a patterns come by A
 
 module _ (n i u a : ℕ) (all : a ≡ count (n - 1)) where
   abbrev A : ℕ
@@ -66,19 +58,17 @@ module _ (n i u a : ℕ) (all : a ≡ count (n - 1)) where
       let e = all-A in
       record { says = λ f g. rw (le-ltb (suc u) A (omega arith), eq-eqb (suc u) A (omega arith)); within = fits }
 
-  -- among the patterns by B, which are read backward
-  pub inside-B : (b : ℕ) → b ≡ count (n - 2) → a ≤ u + 1 → u + 1 ≢ a → u + 1 < perBlock n → Among (n - 1) i
-      → Inside n i u (ByB i (b - 2 - (u - a)))
+  -- among the patterns by B, which are read backward: the rank counts from the end of the block
+  pub inside-B : a ≤ u + 1 → u + 1 ≢ a → u + 1 < perBlock n → Among (n - 1) i → (size : ℕ) → size ≡ perBlock n → Inside n i u (ByB i (size - 1 - (u + 1)))
   unfolding inside
-  inside-B b all-b h d room fits =
+  inside-B h d room fits size whole =
       let e = all-A in
-      let e-b : b ≡ count (before (before n)) = all-b ∙ ap count (less-two n) in
       let past : a ≤ u = omega arith in
       record {
         says = λ f g.
             rw (le-ltb (suc u) A (omega arith), ne-eqb (suc u) A (omega arith))
             (ap (λ (s : ℕ). inverse (raised i (g s))) (omega arith));
-        within = (fits, omega arith);
+        within = (fits, omega (arith, ap count (less-two n)));
       }
 
 -- ---- from place s of block i
@@ -94,10 +84,10 @@ module _ (n i s : ℕ) where
       }
 
   -- in an even block
-  pub on-even : (x : Step) → s + 1 < perBlock n → i % 2 ≢ 1 → Inside n i (perBlock n - 2 - s) x → LeadsOn n i s (record { step = x; back = true })
+  pub on-even : (x : Step) → s + 1 < perBlock n → i % 2 ≢ 1 → Inside n i (perBlock n - 1 - (s + 1)) x → LeadsOn n i s (record { step = x; back = true })
   unfolding onFrom
   on-even x h o l =
-      let e : perBlock n - 2 - s ≡ perBlock n - suc (suc s) = omega arith in
+      let e : perBlock n - 1 - (s + 1) ≡ perBlock n - suc (suc s) = omega arith in
       record {
         says = λ f g.
             rw (lt-ltb (suc s) (perBlock n) (omega arith), odd-rest i, ne-eqb (i % 2) 1 o)

@@ -1,6 +1,6 @@
 -- What the numbers mean that say which move leads on from a place in the list.
 -- Assumes nothing.
-use Prim.Native.Nat.{ℕ, _-_, _≤_, _<_}
+use Prim.Native.Nat.{ℕ, _-_, _<_}
 use mathlib.Core.Path.{_≡_}
 use mathlib.Core.Bool.{cond}
 use Rattle.listing.specs.Numbers.{Among}

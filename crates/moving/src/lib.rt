@@ -1,4 +1,4 @@
 // The move from the pattern of a rank to its neighbours round the circuit: inner pieces for the crates above.
 mod counts;
-mod onward;
 pub mod neighbours;
+mod onward;

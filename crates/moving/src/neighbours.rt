@@ -1,9 +1,16 @@
 // The move from the pattern of a rank to its neighbours round the circuit.
-use joins::changes::{inverse_of, raised_by};
 use crate::counts::count_of;
-use crate::onward::{Row, Step, onward};
-use joins::tables::{closing, hop, join};
-use words::{Jack, Move, Order};
+use crate::onward::Row;
+use crate::onward::Step;
+use crate::onward::onward;
+use joins::changes::inverse_of;
+use joins::changes::raised_by;
+use joins::tables::closing;
+use joins::tables::hop;
+use joins::tables::join;
+use words::Jack;
+use words::Move;
+use words::Order;
 ghost use mathlib.Core.Path.{_≡_};
 ghost use mathlib.Core.Bool.{cond};
 ghost use Prim.Native.Nat.{_≤_, _<_};

@@ -1,5 +1,6 @@
 // Which move leads on from a place in the list, by numbers alone.
-use crate::counts::{block_size, count_of};
+use crate::counts::block_size;
+use crate::counts::count_of;
 ghost use Prim.Native.Nat.{suc, _+_, _-_, _/_, _%_, _≤_, _<_};
 ghost use Rattle.listing.specs.Numbers.{Among};
 ghost use Rattle.listing.specs.Count.{count};
@@ -33,13 +34,14 @@ fn inside_step(n: u8, i: u8, u: u64) -> Step
     ensures { λ s. ⌜ Inside n i u s ⌝ }
 {
     let by_a = count_of(n - 1);
-    if u + 1 < by_a {
+    let next = u + 1;
+    if next < by_a {
         return Step::ByA(u);
     }
-    if u + 1 == by_a {
+    if next == by_a {
         return Step::ByTable(Row::Join(i));
     }
-    Step::ByB(i, count_of(n - 2) - 2 - (u - by_a))
+    Step::ByB(i, block_size(n) - 1 - next)
 }
 
 // From place s of block i: inside the block, an even block being an odd one read backwards, or from its end.
@@ -48,16 +50,29 @@ fn block_step(n: u8, i: u8, s: u64) -> Lead
     ensures { λ w. ⌜ LeadsOn n i s w ⌝ }
 {
     let size = block_size(n);
-    if s + 1 < size {
+    let next = s + 1;
+    if next < size {
         if i % 2 == 1 {
-            return Lead { step: inside_step(n, i, s), back: false };
+            return Lead {
+                step: inside_step(n, i, s),
+                back: false,
+            };
         }
-        return Lead { step: inside_step(n, i, size - 2 - s), back: true };
+        return Lead {
+            step: inside_step(n, i, size - 1 - next),
+            back: true,
+        };
     }
     if i + 1 == n {
-        return Lead { step: Step::ByTable(Row::Closing), back: false };
+        return Lead {
+            step: Step::ByTable(Row::Closing),
+            back: false,
+        };
     }
-    Lead { step: Step::ByTable(Row::Hop(i)), back: false }
+    Lead {
+        step: Step::ByTable(Row::Hop(i)),
+        back: false,
+    }
 }
 
 // From the pattern of rank r, for 4 ports or more: r / size whole blocks come before its block.

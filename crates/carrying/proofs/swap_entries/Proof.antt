@@ -2,8 +2,8 @@
 -- Assumes nothing.
 use native.Mathlib.Omega.{arith}
 use lib.ListN.{length-set}
-use Rattle.carrying.proofs.Stores.{jacks-swapped}
 use borrow.Author.Needs.{needs}
+use Rattle.carrying.proofs.Stores.{jacks-swapped}
 use Rattle.carrying.proofs.swap_entries.Statement.{statement}
 use Rattle.carrying.proofs.swap_entries.Tie as tie
 

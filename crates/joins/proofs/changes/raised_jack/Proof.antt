@@ -2,8 +2,8 @@
 -- Assumes nothing.
 use mathlib.Core.Path.{sym, _∙_}
 use native.Mathlib.Numerals.{add-one}
-use Rattle.listing.proofs.Numbers.{raise-low, raise-high}
 use borrow.Author.Needs.{needs}
+use Rattle.listing.proofs.Numbers.{raise-low, raise-high}
 use Rattle.joins.proofs.changes.raised_jack.Statement.{statement}
 use Rattle.joins.proofs.changes.raised_jack.Tie as tie
 

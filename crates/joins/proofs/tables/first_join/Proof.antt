@@ -3,9 +3,9 @@
 use mathlib.Core.Path.{refl, sym, _∙_}
 use native.Mathlib.Omega.{arith}
 use borrow.Author.Tests.{eq-eqb, ne-eqb}
+use borrow.Author.Needs.{needs}
 use Rattle.listing.proofs.Numbers.{odd-rest}
 use Rattle.listing.proofs.Rows.{join-one-odd, join-one-even}
-use borrow.Author.Needs.{needs}
 use Rattle.joins.proofs.tables.first_join.Statement.{statement}
 use Rattle.joins.proofs.tables.first_join.Tie as tie
 

@@ -2,8 +2,8 @@
 -- Assumes nothing.
 use mathlib.Core.Path.{sym}
 use native.Mathlib.Omega.{arith}
-use Rattle.listing.proofs.Rows.{hopA-one, hopA-more}
 use borrow.Author.Needs.{needs}
+use Rattle.listing.proofs.Rows.{hopA-one, hopA-more}
 use Rattle.joins.proofs.tables.hop_a.Statement.{statement}
 use Rattle.joins.proofs.tables.hop_a.Tie as tie
 

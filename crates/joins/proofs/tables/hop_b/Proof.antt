@@ -2,8 +2,8 @@
 -- Assumes nothing.
 use mathlib.Core.Path.{sym}
 use native.Mathlib.Omega.{arith}
-use Rattle.listing.proofs.Rows.{hopB-one, hopB-more}
 use borrow.Author.Needs.{needs}
+use Rattle.listing.proofs.Rows.{hopB-one, hopB-more}
 use Rattle.joins.proofs.tables.hop_b.Statement.{statement}
 use Rattle.joins.proofs.tables.hop_b.Tie as tie
 

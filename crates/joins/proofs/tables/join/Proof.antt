@@ -1,13 +1,13 @@
 -- `joins::tables::join` meets its contract: the rows of relations (7) and (8), the last three by what is left of n after i.
 -- Assumes nothing.
-use Prim.Native.Nat.{ℕ, _-_, _<_}
 use mathlib.Core.Path.{_≡_, sym, ap, _∙_}
 use mathlib.Core.Logic.{_≢_}
+use Prim.Native.Nat.{ℕ, _-_, _<_}
 use native.Mathlib.Omega.{arith}
+use borrow.Author.Needs.{needs}
 use Rattle.listing.specs.Numbers.{Among}
 use Rattle.listing.specs.Joins.{join}
 use Rattle.listing.proofs.Rows.{join-inner, join-third, join-second}
-use borrow.Author.Needs.{needs}
 use Rattle.joins.proofs.tables.join.Statement.{statement}
 use Rattle.joins.proofs.tables.join.Tie as tie
 
@@ -32,7 +32,9 @@ returns-5 c = sym (join-third _ _ (omega arith) (omega arith))
 
 returns-6 : tie.Need-returns-6
 returns-6 c =
-    sym (join-inner _ _ (c .before .before .if1 .left) (c .before .match .rest .1) (inner _ _ (c .before .before .before .pre .2) (c .match2 .rest .0 .0 .1) (c .match2 .rest .0 .1) (c .match2 .rest .1)))
+    let big = c .before .before in
+    sym (join-inner _ _ (big .if1 .left) (c .before .match .rest .1)
+    (inner _ _ (big .before .pre .2) (c .match2 .rest .0 .0 .1) (c .match2 .rest .0 .1) (c .match2 .rest .1)))
 
 pub join-spec : {M : Type 1} → statement M
 join-spec =

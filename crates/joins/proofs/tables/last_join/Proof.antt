@@ -3,9 +3,9 @@
 use mathlib.Core.Path.{refl, sym, _∙_}
 use native.Mathlib.Omega.{arith}
 use borrow.Author.Tests.{eq-eqb, ne-eqb}
+use borrow.Author.Needs.{needs}
 use Rattle.listing.proofs.Numbers.{odd-rest}
 use Rattle.listing.proofs.Rows.{join-top-odd, join-top-even}
-use borrow.Author.Needs.{needs}
 use Rattle.joins.proofs.tables.last_join.Statement.{statement}
 use Rattle.joins.proofs.tables.last_join.Tie as tie
 
@@ -17,4 +17,14 @@ returns-2 c = sym (join-top-even _ _ (omega arith) refl (odd-rest _ ∙ ne-eqb _
 
 pub last-join-spec : {M : Type 1} → statement M
 last-join-spec =
-    tie.close (tie.spec (λ c. search needs) (λ c. search needs) (λ c. search needs) (λ c. search needs) (λ c. search needs) (λ c. search needs) (λ c. search needs) returns returns-2)
+    tie.close
+    (tie.spec
+    (λ c. search needs)
+    (λ c. search needs)
+    (λ c. search needs)
+    (λ c. search needs)
+    (λ c. search needs)
+    (λ c. search needs)
+    (λ c. search needs)
+    returns
+    returns-2)

@@ -26,7 +26,7 @@ add-result : tie.Need-add-result
 add-result c = let n = c .before .before .args .n in omega (arith, count-most (n - 1) (omega arith), count-most (n - 2) (omega arith))
 
 returns : tie.Need-returns
-returns c = 
+returns c =
     let n = c .before .before .args .n in
     omega (arith, c .before .count-of .ensures ∙ ap count (less-one n), c .count-of2 .ensures ∙ ap count (less-two n))
 

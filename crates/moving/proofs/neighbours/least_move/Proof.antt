@@ -2,8 +2,8 @@
 -- Assumes nothing.
 use mathlib.Core.Path.{_∙_}
 use native.Mathlib.Omega.{arith}
-use Rattle.moving.proofs.Least.{next-of-2, first-of-3, last-of-3}
 use borrow.Author.Needs.{needs}
+use Rattle.moving.proofs.Least.{next-of-2, first-of-3, last-of-3}
 use Rattle.moving.proofs.neighbours.least_move.Statement.{statement}
 use Rattle.moving.proofs.neighbours.least_move.Tie as tie
 

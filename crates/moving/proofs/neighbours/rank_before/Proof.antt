@@ -1,8 +1,8 @@
 -- `moving::neighbours::rank_before` meets its contract: before the first rank comes the last, and before any other the one before.
 -- Assumes nothing.
 use native.Mathlib.Omega.{arith}
-use Rattle.moving.proofs.Least.{before-first, before-other}
 use borrow.Author.Needs.{needs}
+use Rattle.moving.proofs.Least.{before-first, before-other}
 use Rattle.moving.proofs.neighbours.rank_before.Statement.{statement}
 use Rattle.moving.proofs.neighbours.rank_before.Tie as tie
 

@@ -1,15 +1,18 @@
 -- `moving::neighbours::row_move` meets its contract: each row has its function.
 -- Assumes nothing.
-use native.Mathlib.Omega.{arith}
 use borrow.Author.Needs.{needs}
 use Rattle.moving.proofs.neighbours.row_move.Statement.{statement}
 use Rattle.moving.proofs.neighbours.row_move.Tie as tie
 
 join-requires : tie.Need-join-requires
-join-requires c κs = let fits = rw (c .before .w .given .1) at (c .before .before .before .pre .2) in omega arith
+join-requires c κs =
+    let given = c .before .before .before .pre in
+    (given .0, given .1, rw (c .before .w .given .1) at (given .2))
 
 hop-requires : tie.Need-hop-requires
-hop-requires c κs = let fits = rw (c .before .w2 .given .1) at (c .before .before .before .pre .2) in omega arith
+hop-requires c κs =
+    let given = c .before .before .before .pre in
+    (given .0, given .1, rw (c .before .w2 .given .1) at (given .2))
 
 returns : tie.Need-returns
 returns c = rw (c .before .before .w .given .1) (c .join .ensures)

@@ -1,8 +1,8 @@
 -- `moving::onward::block_step` meets its contract: the four cases of `onFrom`.
 -- Assumes nothing.
 use native.Mathlib.Omega.{arith}
-use Rattle.moving.proofs.Leading.{on-odd, on-even, on-closing, on-hop}
 use borrow.Author.Needs.{needs}
+use Rattle.moving.proofs.Leading.{on-odd, on-even, on-closing, on-hop}
 use Rattle.moving.proofs.onward.block_step.Statement.{statement}
 use Rattle.moving.proofs.onward.block_step.Tie as tie
 

@@ -1,26 +1,22 @@
 -- `moving::onward::onward` meets its contract: a rank by its block and its place there.
 -- Assumes nothing.
-use native.Mathlib.Omega.{arith}
-use Rattle.moving.proofs.Leading.{in-block}
+use Prim.Native.Nat.{_+_, _-_, _/_, _%_, _<_}
 use native.Mathlib.Numerals.{add-one}
+use native.Mathlib.Omega.{arith}
 use borrow.Author.Needs.{needs}
+use Rattle.listing.specs.Numbers.{Among}
+use Rattle.listing.specs.Rank.{perBlock}
+use Rattle.moving.proofs.Leading.{in-block}
 use Rattle.moving.proofs.onward.onward.Statement.{statement}
 use Rattle.moving.proofs.onward.onward.Tie as tie
 
-div-i : tie.Need-div-i
-div-i c = in-block _ _ _ (c .before .pre .0) (c .before .pre .2) (c .block-size .ensures) .0
-
-add-i : tie.Need-add-i
-add-i c = omega (arith, in-block _ _ _ (c .before .pre .0) (c .before .pre .2) (c .block-size .ensures))
-
-cast-i : tie.Need-cast-i
-cast-i c = omega (arith, in-block _ _ _ (c .before .pre .0) (c .before .pre .2) (c .block-size .ensures))
-
-rem-block-step : tie.Need-rem-block-step
-rem-block-step c = in-block _ _ _ (c .before .pre .0) (c .before .pre .2) (c .block-size .ensures) .0
+-- a block has patterns, and the rank has its place in one of them
+placed : (c : tie.After-block-size) → (0 < c .block-size .result) × Among (c .before .args .n - 1) (c .before .args .r / c .block-size .result + 1)
+    × (c .before .args .r % c .block-size .result < perBlock (c .before .args .n))
+placed c = in-block _ _ _ (c .before .pre .0) (c .before .pre .2) (c .block-size .ensures)
 
 block-step-requires : tie.Need-block-step-requires
-block-step-requires c κs = let placed = in-block _ _ _ (c .before .pre .0) (c .before .pre .2) (c .block-size .ensures) in (omega arith, omega arith, placed .1, placed .2)
+block-step-requires c κs = (c .before .pre .0, c .before .pre .1, placed c .1, placed c .2)
 
 returns : tie.Need-returns
 returns c = rw (c .before .block-size .ensures, add-one) at (c .block-step .ensures)
@@ -28,4 +24,11 @@ returns c = rw (c .before .block-size .ensures, add-one) at (c .block-step .ensu
 pub onward-spec : {M : Type 1} → statement M
 onward-spec =
     tie.close
-    (tie.spec (λ c κs. search needs) div-i add-i cast-i rem-block-step block-step-requires returns)
+    (tie.spec
+    (λ c κs. search needs)
+    (λ c. placed c .0)
+    (λ c. omega (arith, placed c))
+    (λ c. omega (arith, placed c))
+    (λ c. placed c .0)
+    block-step-requires
+    returns)
