@@ -1,4 +1,4 @@
 pub mod CountTable
 pub mod Leading
-pub mod Least
 pub mod Less
+pub mod Ranks

@@ -9,7 +9,7 @@ use borrow.Fn.PlainCycle.{Measures, is, falls, and}
 use Rattle.listing.specs.Orders.{inverse, raised}
 use Rattle.words.specs.Meaning.{moveOf}
 use Rattle.moving.proofs.Leading.{lead-next}
-use Rattle.moving.proofs.Least.{next-form}
+use Rattle.moving.proofs.Ranks.{next-fits}
 use Rattle.moving.proofs.neighbours.next_move.Reads as reads
 use Rattle.moving.proofs.neighbours.next_move.Kinds as kinds
 use Rattle.moving.proofs.neighbours.+next_move.Lts-next_move as lts
@@ -66,7 +66,7 @@ next-move-requires-2 t c κs = let rank = rw (c .before .step3 .given .1) at (c 
 raised-by-requires : (t : ℕ) → lts.Need-raised-by-requires (calls t) (here t) reads.Post
 raised-by-requires t c κs =
     let rank = rw (c .before .before .step3 .given .1) at (c .before .before .before .before .onward .ensures .within) in
-    rw (c .next-move2 .ensures) (next-form _ _ (omega arith) (omega arith) (rank .1))
+    rw (c .next-move2 .ensures) (next-fits _ _ (omega arith) (omega arith) (rank .1))
 
 -- ---- the answers
 

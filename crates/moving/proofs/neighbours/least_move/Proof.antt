@@ -3,7 +3,7 @@
 use mathlib.Core.Path.{_∙_}
 use native.Mathlib.Omega.{arith}
 use borrow.Author.Needs.{needs}
-use Rattle.moving.proofs.Least.{next-of-2, first-of-3, last-of-3}
+use Rattle.moving.proofs.Ranks.{next-of-2, first-of-3, last-of-3}
 use Rattle.moving.proofs.neighbours.least_move.Statement.{statement}
 use Rattle.moving.proofs.neighbours.least_move.Tie as tie
 

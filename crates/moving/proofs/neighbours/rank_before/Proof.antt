@@ -2,7 +2,7 @@
 -- Assumes nothing.
 use native.Mathlib.Omega.{arith}
 use borrow.Author.Needs.{needs}
-use Rattle.moving.proofs.Least.{before-first, before-other}
+use Rattle.moving.proofs.Ranks.{before-first, before-other}
 use Rattle.moving.proofs.neighbours.rank_before.Statement.{statement}
 use Rattle.moving.proofs.neighbours.rank_before.Tie as tie
 

@@ -1,4 +1,4 @@
--- The move from a rank for 2 and 3 ports, and its jacks for any number; the rank before.
+-- Laws of ranks: the move from a rank for 2 and 3 ports, its form for any number of ports, the rank before.
 -- Assumes nothing.
 use mathlib.Core.Path.{_≡_}
 use mathlib.Core.Logic.{_≢_}
@@ -29,13 +29,19 @@ pub last-of-3 : (n r : ℕ) → n ≡ 3 → r ≢ 0 → closing 3 ≡ nextMove n
 unfolding nextMove
 last-of-3 n r e h = rw (e, ne-eqb r 0 h)
 
--- ---- any number
+-- ---- any number of ports
 
--- the jacks of the move are jacks of the device
-pub next-form : (n r : ℕ) → 2 ≤ n → n ≤ mostPorts → r < count n → InForm mostPorts (nextMove n r)
-next-form zero r h l b = absurd (omega arith)
-next-form (suc zero) r h l b = absurd (omega arith)
-next-form (suc (suc m)) r h l b = form-more (suc (suc m)) mostPorts (nextMove (suc (suc m)) r) l (next-leads m r b .form)
+-- the move is in the paper's form
+pub next-form : (n r : ℕ) → 2 ≤ n → r < count n → InForm n (nextMove n r)
+next-form zero r h l = absurd (omega arith)
+next-form (suc zero) r h l = absurd (omega arith)
+next-form (suc (suc m)) r h l = next-leads m r l .form
+
+-- so its jacks are jacks of the device
+pub next-fits : (n r : ℕ) → 2 ≤ n → n ≤ mostPorts → r < count n → InForm mostPorts (nextMove n r)
+next-fits n r h b l = form-more n mostPorts (nextMove n r) b (next-form n r h l)
+
+-- ---- the rank before
 
 -- before the first rank comes the last
 pub before-first : (n r : ℕ) → r ≡ 0 → count n - 1 ≡ previousRank n r
