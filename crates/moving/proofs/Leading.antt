@@ -38,6 +38,7 @@ block-most n h =
 -- ---- inside a block, of which a patterns come by A
 
 module _ (n i u a : ℕ) (all : a ≡ count (n - 1)) where
+  -- that count, as the definitions have it
   abbrev A : ℕ
   A = count (before n)
 

@@ -17,14 +17,17 @@ use Rattle.moving.proofs.Less.{less-one}
 
 -- ---- 2 and 3 ports
 
+-- for 2 ports the one move is the closing step
 pub next-of-2 : (n r : ℕ) → n ≡ 2 → closing 2 ≡ nextMove n r
 unfolding nextMove
 next-of-2 n r e = rw e
 
+-- for 3 ports the move from rank 0 is the turn 1,2,3
 pub first-of-3 : (n r : ℕ) → n ≡ 3 → r ≡ 0 → one (turn 1 2 3) ≡ nextMove n r
 unfolding nextMove
 first-of-3 n r e h = rw (e, eq-eqb r 0 h)
 
+-- and from the other rank the closing step
 pub last-of-3 : (n r : ℕ) → n ≡ 3 → r ≢ 0 → closing 3 ≡ nextMove n r
 unfolding nextMove
 last-of-3 n r e h = rw (e, ne-eqb r 0 h)
