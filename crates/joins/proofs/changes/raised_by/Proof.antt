@@ -1,7 +1,9 @@
 -- `joins::changes::raised_by` meets its contract: each jack of the move is raised.
 -- Assumes nothing.
-use native.Mathlib.Omega.{arith}
+use mathlib.Core.Path.{ap}
 use borrow.Author.Needs.{needs}
+use Rattle.listing.specs.Orders.{one}
+use Rattle.joins.proofs.Jacks.{two-fit, two-raised}
 use Rattle.joins.proofs.changes.raised_by.Statement.{statement}
 use Rattle.joins.proofs.changes.raised_by.Tie as tie
 
@@ -9,31 +11,22 @@ raised-order-requires : tie.Need-raised-order-requires
 raised-order-requires c κs = rw (c .before .m .given .1) at (c .before .before .before .pre)
 
 raised-jack-requires : tie.Need-raised-jack-requires
-raised-jack-requires c κs = let form = rw (c .before .m2 .given .1) at (c .before .before .before .pre) in omega arith
+raised-jack-requires c κs = two-fit (c .before .before .before .pre) (c .before .m2 .given .1) .0
 
 raised-jack-requires-2 : tie.Need-raised-jack-requires-2
-raised-jack-requires-2 c κs =
-    let two = c .before .before in
-    let form = rw (two .m2 .given .1) at (two .before .before .pre) in
-    omega arith
+raised-jack-requires-2 c κs = two-fit (c .before .before .before .before .pre) (c .before .before .m2 .given .1) .1
 
 raised-jack-requires-3 : tie.Need-raised-jack-requires-3
-raised-jack-requires-3 c κs =
-    let two = c .before .before .before in
-    let form = rw (two .m2 .given .1) at (two .before .before .pre) in
-    omega arith
+raised-jack-requires-3 c κs = two-fit (c .before .before .before .before .before .pre) (c .before .before .before .m2 .given .1) .2
 
 raised-jack-requires-4 : tie.Need-raised-jack-requires-4
-raised-jack-requires-4 c κs =
-    let two = c .before .before .before .before in
-    let form = rw (two .m2 .given .1) at (two .before .before .pre) in
-    omega arith
+raised-jack-requires-4 c κs = two-fit (c .before .before .before .before .before .before .pre) (c .before .before .before .before .m2 .given .1) .3
 
 returns-2 : tie.Need-returns-2
-returns-2 c = rw (c .before .before .m .given .1) (cc)
+returns-2 c = rw (c .before .before .m .given .1) (ap one (c .raised-order .ensures))
 
 returns-3 : tie.Need-returns-3
-returns-3 c = rw (c .before .before .before .before .before .m2 .given .1) (cc)
+returns-3 c = two-raised _ (c .before .before .before .before .before .m2 .given .1) (c .before .before .before .raised-jack .ensures) (c .before .before .raised-jack2 .ensures) (c .before .raised-jack3 .ensures) (c .raised-jack4 .ensures)
 
 pub raised-by-spec : {M : Type 1} → statement M
 raised-by-spec =
