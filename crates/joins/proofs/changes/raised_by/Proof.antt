@@ -26,7 +26,11 @@ returns-2 : tie.Need-returns-2
 returns-2 c = rw (c .before .before .m .given .1) (ap one (c .raised-order .ensures))
 
 returns-3 : tie.Need-returns-3
-returns-3 c = two-raised _ (c .before .before .before .before .before .m2 .given .1) (c .before .before .before .raised-jack .ensures) (c .before .before .raised-jack2 .ensures) (c .before .raised-jack3 .ensures) (c .raised-jack4 .ensures)
+returns-3 c =
+    let second = c .before .before in
+    let first = second .before in
+    two-raised _ (first .before .before .m2 .given .1) (first .raised-jack .ensures) (second .raised-jack2 .ensures) (c .before .raised-jack3 .ensures)
+    (c .raised-jack4 .ensures)
 
 pub raised-by-spec : {M : Type 1} → statement M
 raised-by-spec =

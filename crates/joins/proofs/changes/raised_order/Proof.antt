@@ -24,7 +24,9 @@ returns : tie.Need-returns
 returns c = swap-raised _ (c .before .before .before .o .given .1) (c .before .raised-jack .ensures) (c .raised-jack2 .ensures)
 
 returns-2 : tie.Need-returns-2
-returns-2 c = turn-raised _ (c .before .before .before .before .o2 .given .1) (c .before .before .raised-jack3 .ensures) (c .before .raised-jack4 .ensures) (c .raised-jack5 .ensures)
+returns-2 c =
+    let first = c .before .before in
+    turn-raised _ (first .before .before .o2 .given .1) (first .raised-jack3 .ensures) (c .before .raised-jack4 .ensures) (c .raised-jack5 .ensures)
 
 pub raised-order-spec : {M : Type 1} → statement M
 raised-order-spec =
