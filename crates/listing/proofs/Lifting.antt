@@ -3,7 +3,7 @@
 use mathlib.Core.Path.{_≡_, refl, sym, ap, _∙_}
 use mathlib.Core.Logic.{_≢_}
 use mathlib.Core.List.{List, [], _∷_, map}
-use Prim.Native.Nat.{ℕ, suc}
+use Prim.Native.Nat.{ℕ, suc, _≤_}
 use native.Mathlib.Omega.{arith}
 use lib.ListN.{length}
 use Rattle.listing.specs.Numbers.{Among, trade, raise, lower}
@@ -41,19 +41,19 @@ unfolding carryAll
 carryAll-A m i [] p s long = refl
 carryAll-A m i (o ∷ os) p s long = ap (carryAll os) (carry-A m i o p (s .0) long) ∙ carryAll-A m i os (carry o p) (s .1) (length-carry o p ∙ long)
 
--- what is in form for n jacks is so for one more
-form-more : (n : ℕ) (v : Move) → InForm n v → InForm (suc n) v
-form-more n nothing f = tt
-form-more n (one (swap a b)) f = omega arith
-form-more n (one (turn a b c)) f = omega arith
-form-more n (two a b c d) f = omega arith
+-- what is in form for m jacks is so for more
+pub form-more : (m n : ℕ) (v : Move) → m ≤ n → InForm m v → InForm n v
+form-more m n nothing h f = tt
+form-more m n (one (swap a b)) h f = omega arith
+form-more m n (one (turn a b c)) h f = omega arith
+form-more m n (two a b c d) h f = omega arith
 
 -- a move between two patterns leads from A(i) of the one to A(i) of the other
 pub leads-A : (m i : ℕ) {v : Move} {p q : List ℕ} → Leads (suc m) v p q → Leads (suc (suc m)) v (stepA (suc (suc m)) i p) (stepA (suc (suc m)) i q)
 leads-A m i {v} {p} {q} l =
     record {
       long = length-A (suc (suc m)) i p;
-      form = form-more (suc m) v (l .form);
+      form = form-more (suc m) (suc (suc m)) v (omega arith) (l .form);
       makes = carryAll-A m i (orders v) p (orders-shaped (suc m) v (l .form)) (l .long) ∙ ap (stepA (suc (suc m)) i) (l .makes);
     }
 
@@ -129,6 +129,6 @@ pub leads-B : (m i : ℕ) → Among (suc m) i → {v : Move} {p q : List ℕ} �
 leads-B m i hi {v} {p} {q} l =
     record {
       long = length-B (suc (suc m)) i p;
-      form = form-more (suc m) (raised i v) (raised-form m i v (l .form));
+      form = form-more (suc m) (suc (suc m)) (raised i v) (omega arith) (raised-form m i v (l .form));
       makes = rw (raised-orders i v) (carryAll-B m i hi (orders v) p (orders-shaped m v (l .form)) (l .long) ∙ ap (stepB (suc (suc m)) i) (l .makes));
     }

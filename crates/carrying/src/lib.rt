@@ -1,0 +1,51 @@
+// Orders and moves carried out on a lent panel.
+use words::Jack;
+use words::Move;
+use words::Order;
+ghost use mathlib.Core.Path.{_≡_};
+ghost use mathlib.Core.Logic.{_≢_};
+ghost use lib.ListN.{length};
+ghost use Rattle.listing.specs.Numbers.{Among};
+ghost use Rattle.listing.specs.Orders.{swap, carry, moved, InShape, InForm};
+ghost use Rattle.words.specs.Meaning.{orderOf, moveOf};
+
+// The ports of two jacks exchanged.
+fn swap_entries(p: &mut [u8], a: Jack, b: Jack)
+    requires { ⌜ Among (length (now p)) (a .0) × Among (length (now p)) (b .0) × (a .0 ≢ b .0) ⌝ }
+    ensures { λ _. ⌜ now (p .exit) ≡ carry (swap (a .0) (b .0)) (now (p .entry)) ⌝ }
+{
+    let x = (a.0 - 1) as usize;
+    let y = (b.0 - 1) as usize;
+    let held = p[x];
+    p[x] = p[y];
+    p[y] = held;
+}
+
+// An order on the panel: a turn is the swap of its first two jacks and then of its last two.
+pub fn carry_order(o: Order, p: &mut [u8])
+    requires { ⌜ InShape (length (now p)) (orderOf o) ⌝ }
+    ensures { λ _. ⌜ now (p .exit) ≡ carry (orderOf o) (now (p .entry)) ⌝ }
+{
+    match o {
+        Order::Swap(a, b) => swap_entries(p, a, b),
+        Order::Turn(a, b, c) => {
+            swap_entries(p, a, b);
+            swap_entries(p, b, c);
+        }
+    }
+}
+
+// A move on the panel, order by order.
+pub fn carry_move(m: Move, p: &mut [u8])
+    requires { ⌜ InForm (length (now p)) (moveOf m) ⌝ }
+    ensures { λ _. ⌜ now (p .exit) ≡ moved (moveOf m) (now (p .entry)) ⌝ }
+{
+    match m {
+        Move::Nothing => {}
+        Move::One(o) => carry_order(o, p),
+        Move::Two(a, b, c, d) => {
+            swap_entries(p, a, b);
+            swap_entries(p, c, d);
+        }
+    }
+}

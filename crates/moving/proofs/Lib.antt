@@ -1,0 +1,4 @@
+pub mod CountTable
+pub mod Leading
+pub mod Less
+pub mod Ranks

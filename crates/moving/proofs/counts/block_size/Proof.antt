@@ -1,0 +1,36 @@
+-- `moving::counts::block_size` meets its contract: two counts fit 64 bits together.
+-- Assumes nothing.
+use mathlib.Core.Path.{ap, _∙_}
+use Prim.Native.Nat.{_-_}
+use native.Mathlib.Omega.{arith}
+use borrow.Author.Needs.{needs}
+use Rattle.listing.specs.Count.{count}
+use Rattle.listing.proofs.Limits.{count-most}
+use Rattle.moving.proofs.Less.{less-one, less-two}
+use Rattle.moving.proofs.counts.block_size.Statement.{statement}
+use Rattle.moving.proofs.counts.block_size.Tie as tie
+
+sub-count-of : tie.Need-sub-count-of
+sub-count-of c = search needs
+
+count-of-requires : tie.Need-count-of-requires
+count-of-requires c κs = search needs
+
+sub-count-of-2 : tie.Need-sub-count-of-2
+sub-count-of-2 c = search needs
+
+count-of-requires-2 : tie.Need-count-of-requires-2
+count-of-requires-2 c κs = search needs
+
+add-result : tie.Need-add-result
+add-result c = let n = c .before .before .args .n in omega (arith, count-most (n - 1) (omega arith), count-most (n - 2) (omega arith))
+
+returns : tie.Need-returns
+returns c =
+    let n = c .before .before .args .n in
+    omega (arith, c .before .count-of .ensures ∙ ap count (less-one n), c .count-of2 .ensures ∙ ap count (less-two n))
+
+pub block-size-spec : {M : Type 1} → statement M
+block-size-spec =
+    tie.close
+    (tie.spec sub-count-of count-of-requires sub-count-of-2 count-of-requires-2 add-result returns)
