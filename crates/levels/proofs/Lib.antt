@@ -1,4 +1,3 @@
-pub mod Less
 pub mod CountTable
 pub mod Filling
 pub mod Origins

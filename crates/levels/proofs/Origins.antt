@@ -22,7 +22,7 @@ use Rattle.levels.specs.Entries.{AtMost}
 use Rattle.levels.specs.Levels.{originIn, originOf}
 use Rattle.levels.specs.declared.types.Origin.{Origin}
 use Rattle.levels.specs.declared.types.Origin.the-variants.{ByA, ByB}
-use Rattle.levels.proofs.Less.{less-one}
+use Rattle.listing.proofs.Numbers.{less-one}
 
 -- where there is a rank and a port there are two
 pub two-ports : {n r : ℕ} → n ≢ 0 → r < count n → 2 ≤ n

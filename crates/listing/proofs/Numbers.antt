@@ -4,7 +4,7 @@
 use mathlib.Core.Path.{_≡_, refl, sym, ap, _∙_}
 use mathlib.Core.Logic.{_≢_, _⊎_, inl, inr}
 use mathlib.Core.Bool.{Bool, true, false, not}
-use Prim.Native.Nat.{ℕ, zero, suc, _%_, _≤_, _<_}
+use Prim.Native.Nat.{ℕ, zero, suc, _-_, _%_, _≤_, _<_}
 use native.Mathlib.Omega.{arith}
 use lib.Dec.{eqb, leb, ltb}
 use borrow.Author.Tests.{eqb-true, eqb-false, leb-true, leb-false, ltb-true, ltb-false, eq-eqb, ne-eqb}
@@ -34,6 +34,20 @@ same? a b = either (test (eqb a b)) (λ e. inl (eqb-true a b e)) (λ e. inr (eqb
 pub suc-before : (x : ℕ) → 1 ≤ x → suc (before x) ≡ x
 suc-before zero h = absurd (omega arith)
 suc-before (suc x) h = refl
+
+-- one less is the number before, and two less the number before that
+pub less-one : (n : ℕ) → n - 1 ≡ before n
+less-one zero = refl
+less-one (suc n) = omega arith
+
+pub less-two : (n : ℕ) → n - 2 ≡ before (before n)
+less-two n = omega (arith, less-one n, less-one (before n))
+
+-- what holds for each m + 2 holds from 2 on
+pub from-two : (P : ℕ → Type 0) → ((m : ℕ) → P (suc (suc m))) → (n : ℕ) → 2 ≤ n → P n
+from-two P each zero h = absurd (omega arith)
+from-two P each (suc zero) h = absurd (omega arith)
+from-two P each (suc (suc m)) h = each m
 
 -- ---- is
 

@@ -22,7 +22,7 @@ use Rattle.moving.specs.declared.onward.Row.the-variants.{Join, Hop, Clo
 use Rattle.moving.specs.declared.onward.Step.{Step}
 use Rattle.moving.specs.declared.onward.Step.the-variants.{ByA, ByTable, ByB}
 use Rattle.moving.specs.declared.onward.Lead.{Lead}
-use Rattle.moving.proofs.Less.{less-one, less-two}
+use Rattle.listing.proofs.Numbers.{less-one, less-two}
 
 -- ---- the patterns of a block
 

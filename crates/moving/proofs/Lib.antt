@@ -1,4 +1,2 @@
-pub mod CountTable
 pub mod Leading
-pub mod Less
 pub mod Ranks

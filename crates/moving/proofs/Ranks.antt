@@ -13,7 +13,7 @@ use Rattle.listing.specs.Neighbours.{previousRank, nextMove}
 use Rattle.listing.proofs.Numbers.{is-same, is-other}
 use Rattle.listing.proofs.Lifting.{form-more}
 use Rattle.listing.proofs.Neighbours.{next-leads}
-use Rattle.moving.proofs.Less.{less-one}
+use Rattle.listing.proofs.Numbers.{less-one}
 
 -- ---- 2 and 3 ports
 

@@ -1,4 +1,3 @@
 // The move from the pattern of a rank to its neighbours round the circuit: inner pieces for the crates above.
-mod counts;
 pub mod neighbours;
 mod onward;

@@ -1,5 +1,4 @@
 // The move from the pattern of a rank to its neighbours round the circuit.
-use crate::counts::count_of;
 use crate::onward::Row;
 use crate::onward::Step;
 use crate::onward::onward;
@@ -8,6 +7,7 @@ use joins::changes::raised_by;
 use joins::tables::closing;
 use joins::tables::hop;
 use joins::tables::join;
+use levels::counts::count_of;
 use words::Jack;
 use words::Move;
 use words::Order;

@@ -1,6 +1,6 @@
 // Which move leads on from a place in the list, by numbers alone.
-use crate::counts::block_size;
-use crate::counts::count_of;
+use levels::counts::block_size;
+use levels::counts::count_of;
 ghost use Prim.Native.Nat.{suc, _+_, _-_, _/_, _%_, _≤_, _<_};
 ghost use Rattle.listing.specs.Numbers.{Among};
 ghost use Rattle.listing.specs.Count.{count};

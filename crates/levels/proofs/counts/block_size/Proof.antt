@@ -6,7 +6,7 @@ use native.Mathlib.Omega.{arith}
 use borrow.Author.Needs.{needs}
 use Rattle.listing.specs.Count.{count}
 use Rattle.listing.proofs.Limits.{count-most}
-use Rattle.levels.proofs.Less.{less-one, less-two}
+use Rattle.listing.proofs.Numbers.{less-one, less-two}
 use Rattle.levels.proofs.counts.block_size.Statement.{statement}
 use Rattle.levels.proofs.counts.block_size.Tie as tie
 

@@ -2,7 +2,7 @@
 -- Assumes nothing.
 use native.Mathlib.Omega.{arith}
 use borrow.Author.Needs.{needs}
-use Rattle.levels.proofs.Less.{less-one}
+use Rattle.listing.proofs.Numbers.{less-one}
 use Rattle.levels.proofs.ranking.blocks_before.Statement.{statement}
 use Rattle.levels.proofs.ranking.blocks_before.Tie as tie
 

@@ -3,7 +3,7 @@
 use mathlib.Core.Path.{ap, _∙_}
 use borrow.Author.Needs.{needs}
 use Rattle.listing.specs.Count.{count}
-use Rattle.levels.proofs.Less.{less-one, less-two}
+use Rattle.listing.proofs.Numbers.{less-one, less-two}
 use Rattle.levels.proofs.ranking.first_part.Statement.{statement}
 use Rattle.levels.proofs.ranking.first_part.Tie as tie
 

@@ -4,7 +4,7 @@ use Prim.Native.Nat.{_-_}
 use lib.ListN.{take}
 use native.Mathlib.Omega.{arith}
 use borrow.Author.Needs.{needs}
-use Rattle.levels.proofs.Less.{less-one, less-two}
+use Rattle.listing.proofs.Numbers.{less-one, less-two}
 use Rattle.levels.proofs.Passing.{end-among, place-level}
 use Rattle.levels.proofs.ranking.level.Statement.{statement}
 use Rattle.levels.proofs.ranking.level.Tie as tie

@@ -10,7 +10,7 @@ use Rattle.listing.specs.Pattern.{tabulate}
 use Rattle.listing.specs.Steps.{unA}
 use Rattle.levels.specs.Entries.{byBackA}
 use Rattle.levels.proofs.Filling.{tabulate-stored}
-use Rattle.levels.proofs.Less.{less-one}
+use Rattle.listing.proofs.Numbers.{less-one}
 use Rattle.levels.proofs.steps.back_a.Statement.{statement}
 use Rattle.levels.proofs.steps.back_a.Tie as tie
 

@@ -10,7 +10,7 @@ use Rattle.listing.specs.Pattern.{tabulate}
 use Rattle.listing.specs.Steps.{unB}
 use Rattle.levels.specs.Entries.{byBackB}
 use Rattle.levels.proofs.Filling.{tabulate-stored}
-use Rattle.levels.proofs.Less.{less-two}
+use Rattle.listing.proofs.Numbers.{less-two}
 use Rattle.levels.proofs.steps.back_b.Statement.{statement}
 use Rattle.levels.proofs.steps.back_b.Tie as tie
 

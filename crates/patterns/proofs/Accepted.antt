@@ -1,0 +1,107 @@
+-- What an accepted check is worth to the calls that begin with it, and that they pass its refusal on whole.
+-- Assumes nothing.
+use mathlib.Core.Path.{_≡_, refl, sym, ap, _∙_}
+use mathlib.Core.Bool.{Bool, true, false, cond}
+use mathlib.Core.List.{List}
+use Prim.Native.Nat.{ℕ, zero, suc, _≤_, _<_}
+use native.Mathlib.Omega.{arith}
+use lib.Dec.{leb}
+use lib.ListN.{length}
+use borrow.Author.Tests.{leb-true}
+use Rattle.listing.specs.Pattern.{Derangement}
+use Rattle.listing.specs.Count.{count}
+use Rattle.listing.specs.Listing.{at}
+use Rattle.listing.specs.Rank.{rank}
+use Rattle.listing.specs.Orders.{moved, Leads}
+use Rattle.listing.specs.Neighbours.{rankBeside, moveBeside}
+use Rattle.listing.proofs.Numbers.{from-two}
+use Rattle.listing.proofs.Ranks.{rank-below, at-rank}
+use Rattle.listing.proofs.Neighbours.{beside-leads}
+use Rattle.words.specs.Told.{Spot, nowhere, Told, accepted, refused, then}
+use Rattle.patterns.specs.Faults.{Fault, sound, outside, repeated, ownJack, faultOf, faultTold}
+use Rattle.patterns.specs.Calls.{sized, checkOf, rankOf, unrankOf, unrankBytes, besideOf, besideBytes}
+use Rattle.patterns.proofs.Sound.{check-derangement}
+
+-- ---- an accepted check
+
+-- p is a pattern of 2 to `most` ports
+pub record Pattern (most : ℕ) (p : List ℕ) : Type 0 where
+  pub low : 2 ≤ length p
+  pub high : length p ≤ most
+  pub pattern : Derangement (length p) p
+
+-- only no fault tells nothing
+told-sound : (f : Fault) → accepted (tt {0}) ≡ faultTold f (tt {0}) → f ≡ sound
+told-sound sound e = refl
+told-sound (outside j) e = cc
+told-sound (repeated j k) e = cc
+told-sound (ownJack j) e = cc
+
+-- what `sized` accepts is of a size, and accepted within
+sized-parts : (low high : Bool) (t : Told (Unit {0}))
+    → accepted tt ≡ cond low (cond high t (refused 1 nowhere)) (refused 1 nowhere) → (low ≡ true) × (high ≡ true) × (accepted tt ≡ t)
+sized-parts true true t e = (refl, refl, e)
+sized-parts true false t e = absurd (let z : _≡_ {A = ℕ} 0 1 = cc in omega arith)
+sized-parts false high t e = absurd (let z : _≡_ {A = ℕ} 0 1 = cc in omega arith)
+
+pub accepted-pattern : (most : ℕ) (p : List ℕ) → accepted tt ≡ checkOf most p → Pattern most p
+unfolding checkOf sized
+accepted-pattern most p e =
+    let t = sized-parts (leb 2 (length p)) (leb (length p) most) (faultTold (faultOf true p) tt) e in
+    record {
+      low = leb-true 2 (length p) (t .0);
+      high = leb-true (length p) most (t .1);
+      pattern = check-derangement p (told-sound (faultOf true p) (t .2));
+    }
+
+-- ---- the rank
+
+pub rank-refused : (most : ℕ) (p : List ℕ) (k : ℕ) (s : Spot) → refused k s ≡ checkOf most p → refused k s ≡ rankOf most p
+unfolding rankOf
+rank-refused most p k s e = ap (λ (t : Told (Unit {0})). then t (λ ok. accepted (rank (length p) p))) e
+
+pub rank-accepted : (most : ℕ) (p : List ℕ) → accepted tt ≡ checkOf most p → accepted (rank (length p) p) ≡ rankOf most p
+unfolding rankOf
+rank-accepted most p e = ap (λ (t : Told (Unit {0})). then t (λ ok. accepted (rank (length p) p))) e
+
+-- ---- the pattern of a rank
+
+-- what a refused call tells and leaves
+pub unrank-refused : (most r : ℕ) (out : List ℕ) (k : ℕ) (s : Spot) → unrankOf most r out ≡ refused k s
+    → (refused k s ≡ unrankOf most r out) × (out ≡ unrankBytes most r out)
+unfolding unrankBytes
+unrank-refused most r out k s e = (sym e, rw e)
+
+-- and an accepted one
+pub unrank-accepted : (most r : ℕ) (out : List ℕ) → unrankOf most r out ≡ accepted tt
+    → (accepted tt ≡ unrankOf most r out) × (at (length out) r ≡ unrankBytes most r out)
+unfolding unrankBytes
+unrank-accepted most r out e = (sym e, rw e)
+
+-- ---- the pattern beside a pattern
+
+-- what a refused call tells and leaves
+pub beside-refused : (most : ℕ) (back : Bool) (p : List ℕ) (k : ℕ) (s : Spot) → refused k s ≡ checkOf most p
+    → (refused k s ≡ besideOf most back p) × (p ≡ besideBytes most back p)
+unfolding besideBytes besideOf
+beside-refused most back p k s e = (rw (← e), rw (← e))
+
+-- of a pattern: the move in the paper's form, from it to the one beside it in the list
+module _ (most : ℕ) (p : List ℕ) (e : accepted tt ≡ checkOf most p) where
+  whole : Pattern most p
+  whole = accepted-pattern most p e
+
+  pub rank-fits : rank (length p) p < count (length p)
+  rank-fits = rank-below (length p) p (whole .pattern)
+
+  pub goes : (back : Bool) → Leads (length p) (moveBeside (length p) back (rank (length p) p)) p (at (length p) (rankBeside (length p) back (rank (length p) p)))
+  goes back =
+      rw (at-rank (length p) p (whole .pattern)) at
+      (from-two (λ n. (b : Bool) (r : ℕ) → r < count n → Leads n (moveBeside n b r) (at n r) (at n (rankBeside n b r))) beside-leads
+      (length p) (whole .low) back (rank (length p) p) rank-fits)
+
+  -- what an accepted call tells and leaves
+  pub beside-accepted : (back : Bool) → (accepted (moveBeside (length p) back (rank (length p) p)) ≡ besideOf most back p)
+      × (moved (moveBeside (length p) back (rank (length p) p)) p ≡ besideBytes most back p)
+  unfolding besideBytes besideOf
+  beside-accepted back = (rw (← e), rw (← e) (goes back .makes))

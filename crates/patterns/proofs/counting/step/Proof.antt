@@ -1,0 +1,73 @@
+-- `patterns::counting::step` tells what `stepOf` says: 1 for the ports, 6 for the rank, else the place round the circuit. Two counts of 20 ports fit 64 bits.
+use mathlib.Core.Path.{_≡_, sym, ap, _∙_}
+use Prim.Native.Nat.{ℕ}
+use mir.Syntax.{w64}
+use mir.Val.{toZ, ofZ}
+use mir.ValLaws.{toZ-ofZ}
+use borrow.Author.Needs.{needs}
+use Rattle.listing.specs.Count.{count}
+use Rattle.listing.specs.Around.{around}
+use Rattle.listing.proofs.Limits.{counts-fit}
+use Rattle.words.specs.Told.{accepted}
+use Rattle.words.specs.Meaning.{refusalOf}
+use Rattle.patterns.specs.Calls.{stepOf}
+use Rattle.patterns.proofs.Calls.{too-few, too-many, fits, is-rank, no-rank}
+use Rattle.patterns.proofs.counting.step.Statement.{statement}
+use Rattle.patterns.proofs.counting.step.Tie as tie
+
+nowhere-requires : tie.Need-nowhere-requires
+nowhere-requires c κs = search needs
+
+returns : tie.Need-returns
+unfolding stepOf
+returns c = ap refusalOf (c .nowhere .ensures) ∙ sym (too-few _ _ _ (c .before .if1 .taken))
+
+nowhere-requires-2 : tie.Need-nowhere-requires-2
+nowhere-requires-2 c κs = search needs
+
+returns-2 : tie.Need-returns-2
+unfolding stepOf
+returns-2 c = ap refusalOf (c .nowhere2 .ensures) ∙ sym (too-many _ _ _ (c .before .before .if1 .left) (c .before .if2 .taken))
+
+count-of-requires : tie.Need-count-of-requires
+count-of-requires c κs = search needs
+
+nowhere-requires-3 : tie.Need-nowhere-requires-3
+nowhere-requires-3 c κs = search needs
+
+returns-3 : tie.Need-returns-3
+unfolding stepOf
+returns-3 c =
+    let n = c .before .before in
+    ap refusalOf (c .nowhere3 .ensures)
+    ∙ sym (fits _ _ _ (n .before .before .if1 .left) (n .before .if2 .left) ∙ no-rank _ _ _ (rw (n .count-of .ensures) at (c .before .if3 .taken)))
+
+place-around-requires : tie.Need-place-around-requires
+place-around-requires c κs =
+    let n = c .before in
+    (c .if3 .left, rw (n .count-of .ensures) (counts-fit _ (n .before .if2 .left)))
+
+returns-4 : tie.Need-returns-4
+unfolding stepOf
+returns-4 c =
+    let n = c .before .before in
+    let a = n .before .before .before in
+    ap accepted
+    (c .place-around .ensures
+    ∙ ap (λ (x : ℕ). around x (a .args .rank) (toZ w64 (ofZ w64 (a .args .k)))) (n .count-of .ensures)
+    ∙ ap (around (count (a .args .ports)) (a .args .rank)) (toZ-ofZ w64 (a .args .k) (a .fits .k)))
+    ∙ sym (fits _ _ _ (n .before .before .if1 .left) (n .before .if2 .left) ∙ is-rank _ _ _ (rw (n .count-of .ensures) at (c .before .if3 .left)))
+
+pub step-spec : {M : Type 1} → statement M
+step-spec =
+    tie.close
+    (tie.spec
+    nowhere-requires
+    returns
+    nowhere-requires-2
+    returns-2
+    count-of-requires
+    nowhere-requires-3
+    returns-3
+    place-around-requires
+    returns-4)

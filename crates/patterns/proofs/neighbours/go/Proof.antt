@@ -1,0 +1,84 @@
+-- `patterns::neighbours::go` makes the one move to the pattern beside, and on a refusal leaves the slice as it was.
+-- The rank of the accepted pattern gives the move; carried out, it makes the pattern of the rank beside.
+use mathlib.Core.Path.{_≡_, sym, ap, _∙_}
+use native.Mathlib.Omega.{arith}
+use lib.ListN.{length}
+use borrow.Author.Needs.{needs}
+use Rattle.listing.specs.Limits.{mostPorts}
+use Rattle.listing.specs.Rank.{rank}
+use Rattle.listing.specs.Orders.{moved}
+use Rattle.listing.specs.Neighbours.{moveBeside}
+use Rattle.words.specs.Told.{accepted}
+use Rattle.words.specs.Meaning.{moveOf}
+use Rattle.patterns.specs.Calls.{checkOf}
+use Rattle.patterns.specs.Answers.{checkedTold}
+use Rattle.patterns.proofs.Accepted.{accepted-pattern, rank-fits, goes, beside-refused, beside-accepted}
+use Rattle.patterns.proofs.neighbours.go.Statement.{statement}
+use Rattle.patterns.proofs.neighbours.go.Tie as tie
+
+-- the check that the match found sound was accepted
+sound : (c : tie.After-enum-told) → accepted tt ≡ checkOf mostPorts (c .before .before .before .before .before .args .p .now)
+sound c = ap checkedTold (sym (c .enum-told .given .1)) ∙ c .before .before .check .ensures
+
+cast-n : tie.Need-cast-n
+cast-n c = omega (arith, accepted-pattern mostPorts _ (sound c) .high)
+
+load-requires : tie.Need-load-requires
+load-requires c κs = accepted-pattern mostPorts _ (sound (c .before)) .high
+
+place-requires : tie.Need-place-requires
+place-requires c κs =
+    let whole = accepted-pattern mostPorts _ (sound (c .before .before)) in
+    (whole .high, rw (c .load .ensures) (whole .pattern))
+
+-- the place that was found is the rank
+ranked : (c : tie.After-place)
+    → let p = c .before .before .before .before .before .before .before .before .args .p .now in c .place .result ≡ rank (length p) p
+ranked c = c .place .ensures ∙ ap (rank _) (c .before .load .ensures)
+
+beside-requires : tie.Need-beside-requires
+beside-requires c κs =
+    let e = sound (c .before .before .before) in
+    let whole = accepted-pattern mostPorts _ e in
+    (whole .low, whole .high, rw (ranked c) (rank-fits mostPorts _ e))
+
+-- the move that was found is the one beside the rank
+move-is : (c : tie.After-beside)
+    → let a = c .before .before .before .before .before .before .before .before .before .args in
+    moveOf (c .beside .result) ≡ moveBeside (length (a .p .now)) (a .back) (rank (length (a .p .now)) (a .p .now))
+move-is c =
+    let a = c .before .before .before .before .before .before .before .before .before .args in
+    c .beside .ensures ∙ ap (moveBeside (length (a .p .now)) (a .back)) (ranked (c .before))
+
+carry-move-requires : tie.Need-carry-move-requires
+carry-move-requires c κs =
+    let s = c .before .before .before .before .before in
+    rw (move-is (c .before)) (goes mostPorts _ (sound s) (s .before .before .before .before .before .args .back) .form)
+
+returns : tie.Need-returns
+returns c = beside-refused mostPorts (c .before .before .before .before .before .before .args .back) _ _ _ (ap checkedTold (sym (c .before .f .given .1)) ∙ c .before .before .before .check .ensures)
+
+returns-2 : tie.Need-returns-2
+returns-2 c =
+    let v = c .before .before .before .before in
+    let e = sound (v .before .before .before .before) in
+    let a = v .before .before .before .before .before .before .before .before .before .args in
+    let told = beside-accepted mostPorts (a .p .now) e (a .back) in
+    (ap accepted (move-is v) ∙ told .0, c .before .before .carry-move .ensures ∙ ap (λ w. moved w (a .p .now)) (move-is v) ∙ told .1)
+
+pub go-spec : {M : Type 1} → statement M
+go-spec =
+    tie.close
+    (tie.spec
+    (λ c κs. search needs)
+    (λ c. search needs)
+    (λ c. search needs)
+    cast-n
+    load-requires
+    place-requires
+    beside-requires
+    carry-move-requires
+    (λ c. search needs)
+    returns
+    (λ c. search needs)
+    returns-2)

@@ -1,0 +1,58 @@
+-- `patterns::ranking::rank` tells the check's refusal, or the place in the list of the pattern that the check accepted.
+use mathlib.Core.Path.{_≡_, sym, ap, _∙_}
+use native.Mathlib.Omega.{arith}
+use lib.ListN.{length}
+use borrow.Author.Needs.{needs}
+use Rattle.listing.specs.Limits.{mostPorts}
+use Rattle.listing.specs.Rank.{rank}
+use Rattle.words.specs.Told.{accepted}
+use Rattle.patterns.specs.Calls.{checkOf}
+use Rattle.patterns.specs.Answers.{checkedTold}
+use Rattle.patterns.proofs.Accepted.{accepted-pattern, rank-refused, rank-accepted}
+use Rattle.patterns.proofs.ranking.rank.Statement.{statement}
+use Rattle.patterns.proofs.ranking.rank.Tie as tie
+
+check-requires : tie.Need-check-requires
+check-requires c κs = search needs
+
+enum-known-f : tie.Need-enum-known-f
+enum-known-f c = search needs
+
+enum-told : tie.Need-enum-told
+enum-told c = search needs
+
+-- the check that the match found sound was accepted
+sound : (c : tie.After-enum-told) → accepted tt ≡ checkOf mostPorts (c .before .before .before .before .args .p .now)
+sound c = ap checkedTold (sym (c .enum-told .given .1)) ∙ c .before .before .check .ensures
+
+load-requires : tie.Need-load-requires
+load-requires c κs = accepted-pattern mostPorts _ (sound c) .high
+
+cast-place : tie.Need-cast-place
+cast-place c = omega (arith, accepted-pattern mostPorts _ (sound (c .before)) .high)
+
+place-requires : tie.Need-place-requires
+place-requires c κs =
+    let whole = accepted-pattern mostPorts _ (sound (c .before)) in
+    (whole .high, rw (c .load .ensures) (whole .pattern))
+
+returns : tie.Need-returns
+returns c = rank-refused mostPorts _ _ _ (ap checkedTold (sym (c .before .f .given .1)) ∙ c .before .before .before .check .ensures)
+
+returns-2 : tie.Need-returns-2
+returns-2 c =
+    let p = c .before .before .before .before .before .before .args .p .now in
+    ap accepted (c .place .ensures ∙ ap (rank (length p)) (c .before .load .ensures)) ∙ rank-accepted mostPorts p (sound (c .before .before))
+
+pub rank-spec : {M : Type 1} → statement M
+rank-spec =
+    tie.close
+    (tie.spec
+    check-requires
+    enum-known-f
+    enum-told
+    load-requires
+    cast-place
+    place-requires
+    returns
+    returns-2)

@@ -1,0 +1,76 @@
+-- `patterns::ranking::unrank` writes the pattern of the list at the rank, and on a refusal (1, then 6) leaves the slice as it was.
+use mathlib.Core.Path.{_≡_, refl, sym, ap, _∙_}
+use native.Mathlib.Omega.{arith}
+use lib.ListN.{length}
+use borrow.Author.Needs.{needs}
+use Rattle.words.specs.Meaning.{refusalOf}
+use Rattle.patterns.proofs.Accepted.{unrank-refused, unrank-accepted}
+use Rattle.patterns.proofs.Calls.{too-few, too-many, fits, no-rank, is-rank}
+use Rattle.patterns.specs.Calls.{unrankOf}
+use Rattle.patterns.proofs.ranking.unrank.Statement.{statement}
+use Rattle.patterns.proofs.ranking.unrank.Tie as tie
+
+nowhere-requires : tie.Need-nowhere-requires
+nowhere-requires c κs = search needs
+
+returns : tie.Need-returns
+unfolding unrankOf
+returns c = rw (c .nowhere .ensures) (unrank-refused _ _ _ _ _ (too-few _ _ _ (c .before .if1 .taken)))
+
+nowhere-requires-2 : tie.Need-nowhere-requires-2
+nowhere-requires-2 c κs = search needs
+
+returns-2 : tie.Need-returns-2
+unfolding unrankOf
+returns-2 c = rw (c .nowhere2 .ensures) (unrank-refused _ _ _ _ _ (too-many _ _ _ (c .before .before .if1 .left) (c .before .if2 .taken)))
+
+cast-n : tie.Need-cast-n
+cast-n c = search needs
+
+count-of-requires : tie.Need-count-of-requires
+count-of-requires c κs = search needs
+
+nowhere-requires-3 : tie.Need-nowhere-requires-3
+nowhere-requires-3 c κs = search needs
+
+returns-3 : tie.Need-returns-3
+unfolding unrankOf
+returns-3 c =
+    let n = c .before .before in
+    rw (c .nowhere3 .ensures)
+    (unrank-refused _ _ _ _ _ (fits _ _ _ (n .before .before .if1 .left) (n .before .if2 .left) ∙ no-rank _ _ _ (rw (n .count-of .ensures) at (c .before .if3 .taken))))
+
+pattern-of-requires : tie.Need-pattern-of-requires
+pattern-of-requires c κs = (c .before .before .if2 .left, rw (c .before .count-of .ensures) at (c .if3 .left))
+
+store-requires : tie.Need-store-requires
+store-requires c κs = search needs
+
+same-length : tie.Need-same-length
+same-length c = search needs
+
+returns-4 : tie.Need-returns-4
+unfolding unrankOf
+returns-4 c =
+    let w = c .before .before in
+    let n = w .before .before .before .before in
+    let told = unrank-accepted _ _ _
+    (fits _ _ _ (n .before .before .if1 .left) (n .before .if2 .left) ∙ is-rank _ _ _ (rw (n .count-of .ensures) at (w .before .before .before .if3 .left))) in
+    (told .0, w .store .ensures ∙ w .before .before .pattern-of .ensures ∙ told .1)
+
+pub unrank-spec : {M : Type 1} → statement M
+unrank-spec =
+    tie.close
+    (tie.spec
+    nowhere-requires
+    returns
+    nowhere-requires-2
+    returns-2
+    cast-n
+    count-of-requires
+    nowhere-requires-3
+    returns-3
+    pattern-of-requires
+    store-requires
+    same-length
+    returns-4)

@@ -1,0 +1,60 @@
+-- What each public call tells, and which bytes it leaves, as the paper has it: over the list, for accepted and refused calls alike.
+-- The most ports of the device is a parameter.
+-- Assumes nothing.
+use Prim.Native.Nat.{ℕ}
+use mathlib.Core.Bool.{Bool, true, cond}
+use mathlib.Core.List.{List}
+use lib.Dec.{leb, ltb}
+use lib.IntN.{ℤ}
+use lib.ListN.{length}
+use Rattle.listing.specs.Count.{count}
+use Rattle.listing.specs.Listing.{at}
+use Rattle.listing.specs.Rank.{rank}
+use Rattle.listing.specs.Orders.{Move}
+use Rattle.listing.specs.Neighbours.{rankBeside, moveBeside}
+use Rattle.listing.specs.Around.{around}
+use Rattle.words.specs.Told.{Told, accepted, refused, nowhere, then}
+use Rattle.patterns.specs.Faults.{faultOf, faultTold}
+
+-- refusal 1 unless the ports are 2 to most
+unfoldable pub sized : {A : Type 0} → ℕ → ℕ → Told A → Told A
+sized most n t = cond (leb 2 n) (cond (leb n most) t (refused 1 nowhere)) (refused 1 nowhere)
+
+-- refusal 6 unless the rank is below the count
+unfoldable pub ranked : {A : Type 0} → ℕ → ℕ → Told A → Told A
+ranked n r t = cond (ltb r (count n)) t (refused 6 nowhere)
+
+-- the check of a pattern: 1; then at each jack from 1: 3, 4, 5
+unfoldable pub checkOf : ℕ → List ℕ → Told (Unit {0})
+checkOf most p = sized most (length p) (faultTold (faultOf true p) tt)
+
+-- the count: 1
+unfoldable pub countOf : ℕ → ℕ → Told ℕ
+countOf most n = sized most n (accepted (count n))
+
+-- the rank of a pattern: the refusals of the check
+unfoldable pub rankOf : ℕ → List ℕ → Told ℕ
+rankOf most p = then (checkOf most p) (λ ok. accepted (rank (length p) p))
+
+-- the pattern of a rank, for as many ports as the slice has bytes: 1, then 6
+unfoldable pub unrankOf : ℕ → ℕ → List ℕ → Told (Unit {0})
+unrankOf most r out = sized most (length out) (ranked (length out) r (accepted tt))
+
+-- the pattern beside a pattern, next or previous: the refusals of the check; else the move that was made
+unfoldable pub besideOf : ℕ → Bool → List ℕ → Told Move
+besideOf most back p = then (checkOf most p) (λ ok. accepted (moveBeside (length p) back (rank (length p) p)))
+
+-- the rank that a signed step leads to: 1, then 6
+unfoldable pub stepOf : ℕ → ℕ → ℕ → ℤ → Told ℕ
+stepOf most n r k = sized most n (ranked n r (accepted (around (count n) r k)))
+
+-- the bytes that a call leaves: its own if it was accepted, those that it found if it was refused
+abbrev pub leaves : {A : Type 0} → Told A → List ℕ → List ℕ → List ℕ
+leaves (accepted a) made found = made
+leaves (refused k s) made found = found
+
+unfoldable pub unrankBytes : ℕ → ℕ → List ℕ → List ℕ
+unrankBytes most r out = leaves (unrankOf most r out) (at (length out) r) out
+
+unfoldable pub besideBytes : ℕ → Bool → List ℕ → List ℕ
+besideBytes most back p = leaves (besideOf most back p) (at (length p) (rankBeside (length p) back (rank (length p) p))) p

@@ -1,0 +1,4 @@
+pub mod Faults
+pub mod Calls
+pub mod Answers
+pub mod Signs

@@ -1,0 +1,63 @@
+// Next and previous round the circuit: the lent pattern becomes the one beside it, and the answer is the move that was made.
+use crate::answers::Checked;
+use crate::answers::Moved;
+use crate::checking::check;
+use carrying::carry_move;
+use levels::panels::load;
+use levels::ranking::place;
+use moving::neighbours::next_move;
+use moving::neighbours::previous_move;
+use words::Move;
+ghost use mathlib.Core.Path.{_≡_};
+ghost use mathlib.Core.Bool.{true, false};
+ghost use Prim.Native.Nat.{_≤_, _<_};
+ghost use Rattle.listing.specs.Count.{count};
+ghost use Rattle.listing.specs.Neighbours.{moveBeside};
+ghost use Rattle.listing.specs.Limits.{mostPorts};
+ghost use Rattle.words.specs.Meaning.{moveOf};
+ghost use Rattle.patterns.specs.Calls.{besideOf, besideBytes};
+ghost use Rattle.patterns.specs.Answers.{movedTold};
+
+// The move from the pattern of rank r to the one beside it, the next or, backward, the previous.
+fn beside(n: u8, back: bool, r: u64) -> Move
+    requires { ⌜ (2 ≤ n) × (n ≤ mostPorts) × (r < count n) ⌝ }
+    ensures { λ m. ⌜ moveOf m ≡ moveBeside n back r ⌝ }
+{
+    if back {
+        previous_move(n, r)
+    } else {
+        next_move(n, r)
+    }
+}
+
+// The lent pattern becomes the one beside it.
+fn go(p: &mut [u8], back: bool) -> Moved
+    ensures answer { λ r. ⌜ movedTold r ≡ besideOf mostPorts back (now (p .entry)) ⌝ }
+    ensures bytes { λ _. ⌜ now (p .exit) ≡ besideBytes mostPorts back (now (p .entry)) ⌝ }
+{
+    match check(p) {
+        Checked::Refused(f) => Moved::Refused(f),
+        Checked::Sound => {
+            let n = p.len() as u8;
+            let m = beside(n, back, place(load(p), n));
+            carry_move(m, p);
+            Moved::By(m)
+        }
+    }
+}
+
+// The lent pattern becomes the next one round the circuit.
+pub fn next(p: &mut [u8]) -> Moved
+    ensures answer { λ r. ⌜ movedTold r ≡ besideOf mostPorts false (now (p .entry)) ⌝ }
+    ensures bytes { λ _. ⌜ now (p .exit) ≡ besideBytes mostPorts false (now (p .entry)) ⌝ }
+{
+    go(p, false)
+}
+
+// The lent pattern becomes the previous one round the circuit.
+pub fn previous(p: &mut [u8]) -> Moved
+    ensures answer { λ r. ⌜ movedTold r ≡ besideOf mostPorts true (now (p .entry)) ⌝ }
+    ensures bytes { λ _. ⌜ now (p .exit) ≡ besideBytes mostPorts true (now (p .entry)) ⌝ }
+{
+    go(p, true)
+}
