@@ -1,4 +1,2 @@
 pub mod CountTable
 pub mod Filling
-pub mod Origins
-pub mod Passing

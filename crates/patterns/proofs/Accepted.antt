@@ -1,4 +1,4 @@
--- What an accepted check is worth to the calls that begin with it, and that they pass its refusal on whole.
+-- The calls that begin with the check: they pass its refusal on whole, and an accepted pattern has its rank and its neighbours in the list.
 -- Assumes nothing.
 use mathlib.Core.Path.{_≡_, refl, sym, ap, _∙_}
 use mathlib.Core.Bool.{Bool, true, false, cond}
@@ -18,41 +18,9 @@ use Rattle.listing.proofs.Numbers.{from-two}
 use Rattle.listing.proofs.Ranks.{rank-below, at-rank}
 use Rattle.listing.proofs.Neighbours.{beside-leads}
 use Rattle.words.specs.Told.{Spot, nowhere, Told, accepted, refused, then}
-use Rattle.patterns.specs.Faults.{Fault, sound, outside, repeated, ownJack, faultOf, faultTold}
-use Rattle.patterns.specs.Calls.{sized, checkOf, rankOf, unrankOf, unrankBytes, besideOf, besideBytes}
-use Rattle.patterns.proofs.Sound.{check-derangement}
-
--- ---- an accepted check
-
--- p is a pattern of 2 to `most` ports
-pub record Pattern (most : ℕ) (p : List ℕ) : Type 0 where
-  pub low : 2 ≤ length p
-  pub high : length p ≤ most
-  pub pattern : Derangement (length p) p
-
--- only no fault tells nothing
-told-sound : (f : Fault) → accepted (tt {0}) ≡ faultTold f (tt {0}) → f ≡ sound
-told-sound sound e = refl
-told-sound (outside j) e = cc
-told-sound (repeated j k) e = cc
-told-sound (ownJack j) e = cc
-
--- what `sized` accepts is of a size, and accepted within
-sized-parts : (low high : Bool) (t : Told (Unit {0}))
-    → accepted tt ≡ cond low (cond high t (refused 1 nowhere)) (refused 1 nowhere) → (low ≡ true) × (high ≡ true) × (accepted tt ≡ t)
-sized-parts true true t e = (refl, refl, e)
-sized-parts true false t e = absurd (let z : _≡_ {A = ℕ} 0 1 = cc in omega arith)
-sized-parts false high t e = absurd (let z : _≡_ {A = ℕ} 0 1 = cc in omega arith)
-
-pub accepted-pattern : (most : ℕ) (p : List ℕ) → accepted tt ≡ checkOf most p → Pattern most p
-unfolding checkOf sized
-accepted-pattern most p e =
-    let t = sized-parts (leb 2 (length p)) (leb (length p) most) (faultTold (faultOf true p) tt) e in
-    record {
-      low = leb-true 2 (length p) (t .0);
-      high = leb-true (length p) most (t .1);
-      pattern = check-derangement p (told-sound (faultOf true p) (t .2));
-    }
+use Rattle.checks.specs.Calls.{checkOf}
+use Rattle.patterns.specs.Calls.{rankOf, unrankOf, unrankBytes, besideOf, besideBytes}
+use Rattle.checks.proofs.Accepted.{Pattern, accepted-pattern}
 
 -- ---- the rank
 

@@ -11,10 +11,8 @@ use Rattle.words.specs.Told.{Told}
 use Rattle.words.specs.Meaning.{refusalOf}
 use Rattle.words.specs.declared.Refusal.{Refusal}
 use Rattle.words.proofs.Once.{move-once, refusal-once}
-use Rattle.patterns.specs.Calls.{checkOf, countOf, rankOf, unrankOf, unrankBytes, besideOf, besideBytes, stepOf}
-use Rattle.patterns.specs.Answers.{checkedTold, countedTold, rankedTold, unrankedTold, movedTold, steppedTold}
-use Rattle.patterns.specs.declared.answers.Checked.{Checked}
-use Rattle.patterns.specs.declared.answers.Checked.the-variants.{Sound, Refused as Checked-Refused}
+use Rattle.patterns.specs.Calls.{countOf, rankOf, unrankOf, unrankBytes, besideOf, besideBytes, stepOf}
+use Rattle.patterns.specs.Answers.{countedTold, rankedTold, unrankedTold, movedTold, steppedTold}
 use Rattle.patterns.specs.declared.answers.Counted.{Counted}
 use Rattle.patterns.specs.declared.answers.Counted.the-variants.{Patterns, Refused as Counted-Refused}
 use Rattle.patterns.specs.declared.answers.Ranked.{Ranked}
@@ -27,12 +25,6 @@ use Rattle.patterns.specs.declared.answers.Stepped.{Stepped}
 use Rattle.patterns.specs.declared.answers.Stepped.the-variants.{To, Refused as Stepped-Refused}
 
 -- ---- answers that tell the same
-
-checked-once : (r s : Checked) → checkedTold r ≡ checkedTold s → r ≡ s
-checked-once Sound Sound e = refl
-checked-once Sound (Checked-Refused g) e = cc
-checked-once (Checked-Refused f) Sound e = cc
-checked-once (Checked-Refused f) (Checked-Refused g) e = ap Checked-Refused (refusal-once f g e)
 
 counted-once : (r s : Counted) → countedTold r ≡ countedTold s → r ≡ s
 counted-once (Patterns c) (Patterns d) e = ap Patterns (cc)
@@ -65,9 +57,6 @@ stepped-once (Stepped-Refused f) (To b) e = cc
 stepped-once (Stepped-Refused f) (Stepped-Refused g) e = ap Stepped-Refused (refusal-once f g e)
 
 -- ---- one answer, and one list of bytes, to each call
-
-pub only-check : (p : List ℕ) (r s : Checked) → checkedTold r ≡ checkOf mostPorts p → checkedTold s ≡ checkOf mostPorts p → r ≡ s
-only-check p r s e f = checked-once r s (e ∙ sym f)
 
 pub only-count : (n : ℕ) (r s : Counted) → countedTold r ≡ countOf mostPorts n → countedTold s ≡ countOf mostPorts n → r ≡ s
 only-count n r s e f = counted-once r s (e ∙ sym f)

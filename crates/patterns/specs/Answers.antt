@@ -4,12 +4,6 @@ use Prim.Native.Nat.{ℕ}
 use Rattle.listing.specs.Orders as list
 use Rattle.words.specs.Told.{Told, accepted}
 use Rattle.words.specs.Meaning.{moveOf, refusalOf}
-use Rattle.patterns.specs.Faults.{sound, outside, repeated, ownJack}
-use Rattle.patterns.specs.Faults as faults
-use Rattle.patterns.specs.declared.answers.Fault.{Fault}
-use Rattle.patterns.specs.declared.answers.Fault.the-variants.{Sound as Fault-Sound, Outside, Repeated, OwnJack}
-use Rattle.patterns.specs.declared.answers.Checked.{Checked}
-use Rattle.patterns.specs.declared.answers.Checked.the-variants.{Sound, Refused as Checked-Refused}
 use Rattle.patterns.specs.declared.answers.Counted.{Counted}
 use Rattle.patterns.specs.declared.answers.Counted.the-variants.{Patterns, Refused as Counted-Refused}
 use Rattle.patterns.specs.declared.answers.Ranked.{Ranked}
@@ -20,16 +14,6 @@ use Rattle.patterns.specs.declared.answers.Moved.{Moved}
 use Rattle.patterns.specs.declared.answers.Moved.the-variants.{By, Refused as Moved-Refused}
 use Rattle.patterns.specs.declared.answers.Stepped.{Stepped}
 use Rattle.patterns.specs.declared.answers.Stepped.the-variants.{To, Refused as Stepped-Refused}
-
-abbrev pub faultIs : Fault → faults.Fault
-faultIs Fault-Sound = sound
-faultIs (Outside j) = outside (j .0)
-faultIs (Repeated j k) = repeated (j .0) (k .0)
-faultIs (OwnJack j) = ownJack (j .0)
-
-abbrev pub checkedTold : Checked → Told (Unit {0})
-checkedTold Sound = accepted tt
-checkedTold (Checked-Refused f) = refusalOf f
 
 abbrev pub countedTold : Counted → Told ℕ
 countedTold (Patterns c) = accepted c

@@ -14,19 +14,11 @@ use Rattle.listing.specs.Orders.{Move}
 use Rattle.listing.specs.Neighbours.{rankBeside, moveBeside}
 use Rattle.listing.specs.Around.{around}
 use Rattle.words.specs.Told.{Told, accepted, refused, nowhere, then}
-use Rattle.patterns.specs.Faults.{faultOf, faultTold}
-
--- refusal 1 unless the ports are 2 to most
-unfoldable pub sized : {A : Type 0} → ℕ → ℕ → Told A → Told A
-sized most n t = cond (leb 2 n) (cond (leb n most) t (refused 1 nowhere)) (refused 1 nowhere)
+use Rattle.checks.specs.Calls.{sized, checkOf}
 
 -- refusal 6 unless the rank is below the count
 unfoldable pub ranked : {A : Type 0} → ℕ → ℕ → Told A → Told A
 ranked n r t = cond (ltb r (count n)) t (refused 6 nowhere)
-
--- the check of a pattern: 1; then at each jack from 1: 3, 4, 5
-unfoldable pub checkOf : ℕ → List ℕ → Told (Unit {0})
-checkOf most p = sized most (length p) (faultTold (faultOf true p) tt)
 
 -- the count: 1
 unfoldable pub countOf : ℕ → ℕ → Told ℕ

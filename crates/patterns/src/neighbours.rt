@@ -1,12 +1,12 @@
 // Next and previous round the circuit: the lent pattern becomes the one beside it, and the answer is the move that was made.
-use crate::answers::Checked;
 use crate::answers::Moved;
-use crate::checking::check;
 use carrying::carry_move;
+use checks::answers::Checked;
+use checks::checking::check;
 use levels::panels::load;
-use levels::ranking::place;
 use moving::neighbours::next_move;
 use moving::neighbours::previous_move;
+use ranks::ranking::place;
 use words::Move;
 ghost use mathlib.Core.Path.{_≡_};
 ghost use mathlib.Core.Bool.{true, false};

@@ -1,14 +1,14 @@
 // Rank from pattern and pattern from rank.
-use crate::answers::Checked;
 use crate::answers::Ranked;
 use crate::answers::Unranked;
-use crate::checking::check;
 use crate::counting::nowhere;
+use checks::answers::Checked;
+use checks::checking::check;
 use levels::counts::count_of;
 use levels::panels::load;
 use levels::panels::store;
-use levels::ranking::place;
-use levels::unranking::pattern_of;
+use ranks::ranking::place;
+use ranks::unranking::pattern_of;
 use words::Reason;
 ghost use mathlib.Core.Path.{_≡_};
 ghost use Rattle.listing.specs.Limits.{mostPorts};

@@ -10,9 +10,10 @@ use Rattle.listing.specs.Orders.{moved}
 use Rattle.listing.specs.Neighbours.{moveBeside}
 use Rattle.words.specs.Told.{accepted}
 use Rattle.words.specs.Meaning.{moveOf}
-use Rattle.patterns.specs.Calls.{checkOf}
-use Rattle.patterns.specs.Answers.{checkedTold}
-use Rattle.patterns.proofs.Accepted.{accepted-pattern, rank-fits, goes, beside-refused, beside-accepted}
+use Rattle.checks.specs.Calls.{checkOf}
+use Rattle.checks.specs.Answers.{checkedTold}
+use Rattle.checks.proofs.Accepted.{accepted-pattern}
+use Rattle.patterns.proofs.Accepted.{rank-fits, goes, beside-refused, beside-accepted}
 use Rattle.patterns.proofs.neighbours.go.Statement.{statement}
 use Rattle.patterns.proofs.neighbours.go.Tie as tie
 

@@ -6,9 +6,10 @@ use borrow.Author.Needs.{needs}
 use Rattle.listing.specs.Limits.{mostPorts}
 use Rattle.listing.specs.Rank.{rank}
 use Rattle.words.specs.Told.{accepted}
-use Rattle.patterns.specs.Calls.{checkOf}
-use Rattle.patterns.specs.Answers.{checkedTold}
-use Rattle.patterns.proofs.Accepted.{accepted-pattern, rank-refused, rank-accepted}
+use Rattle.checks.specs.Calls.{checkOf}
+use Rattle.checks.specs.Answers.{checkedTold}
+use Rattle.checks.proofs.Accepted.{accepted-pattern}
+use Rattle.patterns.proofs.Accepted.{rank-refused, rank-accepted}
 use Rattle.patterns.proofs.ranking.rank.Statement.{statement}
 use Rattle.patterns.proofs.ranking.rank.Tie as tie
 

@@ -1,0 +1,5 @@
+pub mod Faults
+pub mod Sound
+pub mod Calls
+pub mod Accepted
+pub mod Only

@@ -1,0 +1,87 @@
+// The check of a pattern or a panel: the first jack at fault decides.
+use crate::answers::Checked;
+use crate::answers::Fault;
+use words::Jack;
+use words::Place;
+use words::Reason;
+use words::Refusal;
+ghost use mathlib.Core.Path.{_≡_};
+ghost use Prim.Native.Nat.{_≤_};
+ghost use lib.ListN.{length};
+ghost use Rattle.listing.specs.Limits.{mostPorts};
+ghost use Rattle.checks.specs.Faults.{faultOf, faultTold};
+ghost use Rattle.checks.specs.Calls.{checkOf};
+ghost use Rattle.checks.specs.Answers.{faultIs, checkedTold};
+
+// The first fault of p: as a pattern, or as a panel, where a port may stand at its own jack.
+pub fn fault(p: &[u8], pattern: bool) -> Fault
+    requires { ⌜ length (now p) ≤ mostPorts ⌝ }
+    ensures { λ r. ⌜ faultIs r ≡ faultOf pattern (now (p .entry)) ⌝ }
+{
+    let n = p.len();
+    let mut found = Fault::Sound;
+    let mut at: usize = 0;
+    'jacks: while at < n {
+        let next = at + 1;
+        let jack = Jack(next as u8);
+        let port = p[at] as usize;
+        if port < 1 {
+            found = Fault::Outside(jack);
+            break 'jacks;
+        }
+        if n < port {
+            found = Fault::Outside(jack);
+            break 'jacks;
+        }
+        let mut k: usize = 0;
+        while k < at {
+            if p[k] == p[at] {
+                found = Fault::Repeated(jack, Jack((k + 1) as u8));
+                break 'jacks;
+            }
+            k += 1;
+        }
+        if pattern {
+            if port == next {
+                found = Fault::OwnJack(jack);
+                break 'jacks;
+            }
+        }
+        at = next;
+    }
+    found
+}
+
+// Whether p is a pattern of 2 to 20 ports.
+pub fn check(p: &[u8]) -> Checked
+    ensures { λ r. ⌜ checkedTold r ≡ checkOf mostPorts (now (p .entry)) ⌝ }
+{
+    let n = p.len();
+    if n < 2 {
+        return Checked::Refused(Refusal {
+            reason: Reason::Ports,
+            place: Place::Nowhere,
+        });
+    }
+    if 20 < n {
+        return Checked::Refused(Refusal {
+            reason: Reason::Ports,
+            place: Place::Nowhere,
+        });
+    }
+    match fault(p, true) {
+        Fault::Sound => Checked::Sound,
+        Fault::Outside(j) => Checked::Refused(Refusal {
+            reason: Reason::Outside,
+            place: Place::AtJack(j),
+        }),
+        Fault::Repeated(j, _) => Checked::Refused(Refusal {
+            reason: Reason::Repeated,
+            place: Place::AtJack(j),
+        }),
+        Fault::OwnJack(j) => Checked::Refused(Refusal {
+            reason: Reason::OwnJack,
+            place: Place::AtJack(j),
+        }),
+    }
+}

@@ -1,0 +1,34 @@
+-- `ranks::ranking::comes_first` meets its contract: by the step, the block's parity and the way to read.
+-- Assumes nothing.
+use borrow.Author.Needs.{needs}
+use Rattle.listing.specs.Numbers.{odd}
+use Rattle.ranks.proofs.Passing.{sides}
+use Rattle.ranks.proofs.ranking.comes_first.Statement.{statement}
+use Rattle.ranks.proofs.ranking.comes_first.Tie as tie
+
+enum-known-c : tie.Need-enum-known-c
+enum-known-c c = search needs
+
+is-odd-requires : tie.Need-is-odd-requires
+is-odd-requires c κs = search needs
+
+enum-known-c-2 : tie.Need-enum-known-c-2
+enum-known-c-2 c = search needs
+
+is-odd-requires-2 : tie.Need-is-odd-requires-2
+is-odd-requires-2 c κs = search needs
+
+returns : tie.Need-returns
+returns c =
+    let i = c .before .before .c .given in
+    rw (i .1, c .is-odd .ensures) (sides (odd (i .0 .0)) (c .before .before .before .before .args .forward) .0)
+
+returns-2 : tie.Need-returns-2
+returns-2 c =
+    let i = c .before .before .c2 .given in
+    rw (i .1, c .is-odd2 .ensures) (sides (odd (i .0 .0)) (c .before .before .before .before .args .forward) .1)
+
+pub comes-first-spec : {M : Type 1} → statement M
+comes-first-spec =
+    tie.close
+    (tie.spec enum-known-c is-odd-requires enum-known-c-2 is-odd-requires-2 returns returns-2)
