@@ -26,11 +26,11 @@ use Rattle.checks.proofs.Accepted.{Pattern, accepted-pattern}
 
 pub rank-refused : (most : ℕ) (p : List ℕ) (k : ℕ) (s : Spot) → refused k s ≡ checkOf most p → refused k s ≡ rankOf most p
 unfolding rankOf
-rank-refused most p k s e = ap (λ (t : Told (Unit {0})). then t (λ ok. accepted (rank (length p) p))) e
+rank-refused most p k s e = rw (← e)
 
 pub rank-accepted : (most : ℕ) (p : List ℕ) → accepted tt ≡ checkOf most p → accepted (rank (length p) p) ≡ rankOf most p
 unfolding rankOf
-rank-accepted most p e = ap (λ (t : Told (Unit {0})). then t (λ ok. accepted (rank (length p) p))) e
+rank-accepted most p e = rw (← e)
 
 -- ---- the pattern of a rank
 
