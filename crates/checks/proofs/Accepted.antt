@@ -1,4 +1,4 @@
--- What the check accepts: exactly the patterns of 2 to `most` ports.
+-- What the check accepts: exactly the patterns of 2 to `most` ports and, as a panel, exactly the permutations.
 -- Assumes nothing.
 use mathlib.Core.Path.{_≡_, refl, sym, ap, _∙_}
 use mathlib.Core.Bool.{Bool, true, false, cond}
@@ -8,11 +8,11 @@ use native.Mathlib.Omega.{arith}
 use lib.Dec.{leb}
 use lib.ListN.{length}
 use borrow.Author.Tests.{leb-true}
-use Rattle.listing.specs.Pattern.{Derangement}
+use Rattle.listing.specs.Pattern.{Permutation, Derangement}
 use Rattle.words.specs.Told.{nowhere, Told, accepted, refused}
 use Rattle.checks.specs.Faults.{Fault, sound, outside, repeated, ownJack, faultOf, faultTold}
-use Rattle.checks.specs.Calls.{sized, checkOf}
-use Rattle.checks.proofs.Sound.{check-derangement, derangement-check}
+use Rattle.checks.specs.Calls.{sized, checkAs, checkOf}
+use Rattle.checks.proofs.Sound.{panel-permutation, permutation-panel, check-derangement, derangement-check}
 use Rattle.checks.proofs.Calls.{check-fault}
 
 -- p is a pattern of 2 to `most` ports
@@ -20,6 +20,12 @@ pub record Pattern (most : ℕ) (p : List ℕ) : Type 0 where
   pub low : 2 ≤ length p
   pub high : length p ≤ most
   pub pattern : Derangement (length p) p
+
+-- p is a panel of 2 to `most` ports
+pub record Panel (most : ℕ) (p : List ℕ) : Type 0 where
+  pub low : 2 ≤ length p
+  pub high : length p ≤ most
+  pub panel : Permutation (length p) p
 
 -- only no fault tells nothing
 told-sound : (f : Fault) → accepted (tt {0}) ≡ faultTold f (tt {0}) → f ≡ sound
@@ -35,16 +41,30 @@ sized-parts true true t e = (refl, refl, e)
 sized-parts true false t e = absurd (let z : _≡_ {A = ℕ} 0 1 = cc in omega arith)
 sized-parts false high t e = absurd (let z : _≡_ {A = ℕ} 0 1 = cc in omega arith)
 
+-- what the check accepts has 2 to `most` jacks, and none of them is at fault
+accepted-parts : (pattern : Bool) (most : ℕ) (p : List ℕ) → accepted tt ≡ checkAs pattern most p
+    → (2 ≤ length p) × (length p ≤ most) × (faultOf pattern p ≡ sound)
+unfolding checkAs sized
+accepted-parts pattern most p e =
+    let t = sized-parts (leb 2 (length p)) (leb (length p) most) (faultTold (faultOf pattern p) tt) e in
+    (leb-true 2 (length p) (t .0), leb-true (length p) most (t .1), told-sound (faultOf pattern p) (t .2))
+
+-- so it is a pattern
 pub accepted-pattern : (most : ℕ) (p : List ℕ) → accepted tt ≡ checkOf most p → Pattern most p
-unfolding checkOf sized
 accepted-pattern most p e =
-    let t = sized-parts (leb 2 (length p)) (leb (length p) most) (faultTold (faultOf true p) tt) e in
-    record {
-      low = leb-true 2 (length p) (t .0);
-      high = leb-true (length p) most (t .1);
-      pattern = check-derangement p (told-sound (faultOf true p) (t .2));
-    }
+    let t = accepted-parts true most p e in
+    record { low = t .0; high = t .1; pattern = check-derangement p (t .2) }
 
 -- and each of those is accepted
 pub pattern-accepted : (most : ℕ) (p : List ℕ) → Pattern most p → accepted tt ≡ checkOf most p
-pattern-accepted most p P = check-fault most p sound (P .low) (P .high) (sym (derangement-check p (P .pattern)))
+pattern-accepted most p P = check-fault true most p sound (P .low) (P .high) (sym (derangement-check p (P .pattern)))
+
+-- what it accepts as a panel is a permutation
+pub accepted-panel : (most : ℕ) (p : List ℕ) → accepted tt ≡ checkAs false most p → Panel most p
+accepted-panel most p e =
+    let t = accepted-parts false most p e in
+    record { low = t .0; high = t .1; panel = panel-permutation false p (t .2) }
+
+-- and each permutation is accepted, with a port at its own jack or without
+pub panel-accepted : (most : ℕ) (p : List ℕ) → Panel most p → accepted tt ≡ checkAs false most p
+panel-accepted most p P = check-fault false most p sound (P .low) (P .high) (sym (permutation-panel p (P .panel)))

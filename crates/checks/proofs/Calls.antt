@@ -1,14 +1,14 @@
 -- Laws of the check's definition: refusal 1, and the first fault else.
 -- Assumes nothing.
 use mathlib.Core.Path.{_≡_, sym, ap, _∙_}
-use mathlib.Core.Bool.{true}
+use mathlib.Core.Bool.{Bool}
 use mathlib.Core.List.{List}
 use Prim.Native.Nat.{ℕ, _≤_, _<_}
 use lib.ListN.{length}
 use borrow.Author.Tests.{le-leb, lt-leb}
 use Rattle.words.specs.Told.{Told, refused, nowhere}
 use Rattle.checks.specs.Faults.{Fault, faultOf, faultTold}
-use Rattle.checks.specs.Calls.{sized, checkOf}
+use Rattle.checks.specs.Calls.{sized, checkAs}
 
 module _ {A : Type 0} (most n : ℕ) (t : Told A) where
   pub too-few : n < 2 → sized most n t ≡ refused 1 nowhere
@@ -24,6 +24,7 @@ module _ {A : Type 0} (most n : ℕ) (t : Told A) where
   fits low high = rw (le-leb 2 n low, le-leb n most high)
 
 -- of 2 to `most` ports, the check tells the first fault
-pub check-fault : (most : ℕ) (p : List ℕ) (f : Fault) → 2 ≤ length p → length p ≤ most → f ≡ faultOf true p → faultTold f tt ≡ checkOf most p
-unfolding checkOf
-check-fault most p f low high e = ap (λ (g : Fault). faultTold g tt) e ∙ sym (fits most (length p) (faultTold (faultOf true p) tt) low high)
+pub check-fault : (pattern : Bool) (most : ℕ) (p : List ℕ) (f : Fault) → 2 ≤ length p → length p ≤ most → f ≡ faultOf pattern p
+    → faultTold f tt ≡ checkAs pattern most p
+unfolding checkAs
+check-fault pattern most p f low high e = ap (λ (g : Fault). faultTold g tt) e ∙ sym (fits most (length p) (faultTold (faultOf pattern p) tt) low high)

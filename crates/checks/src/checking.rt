@@ -6,11 +6,12 @@ use words::Place;
 use words::Reason;
 use words::Refusal;
 ghost use mathlib.Core.Path.{_≡_};
+ghost use mathlib.Core.Bool.{true, false};
 ghost use Prim.Native.Nat.{_≤_};
 ghost use lib.ListN.{length};
 ghost use Rattle.listing.specs.Limits.{mostPorts};
 ghost use Rattle.checks.specs.Faults.{faultOf, faultTold};
-ghost use Rattle.checks.specs.Calls.{checkOf};
+ghost use Rattle.checks.specs.Calls.{checkAs};
 ghost use Rattle.checks.specs.Answers.{faultIs, checkedTold};
 
 // The first fault of p: as a pattern, or as a panel, where a port may stand at its own jack.
@@ -52,9 +53,9 @@ pub fn fault(p: &[u8], pattern: bool) -> Fault
     found
 }
 
-// Whether p is a pattern of 2 to 20 ports.
-pub fn check(p: &[u8]) -> Checked
-    ensures { λ r. ⌜ checkedTold r ≡ checkOf mostPorts (now (p .entry)) ⌝ }
+// Whether p is a pattern, or else a panel, of 2 to 20 ports.
+fn check_as(p: &[u8], pattern: bool) -> Checked
+    ensures { λ r. ⌜ checkedTold r ≡ checkAs pattern mostPorts (now (p .entry)) ⌝ }
 {
     let n = p.len();
     if n < 2 {
@@ -69,7 +70,7 @@ pub fn check(p: &[u8]) -> Checked
             place: Place::Nowhere,
         });
     }
-    match fault(p, true) {
+    match fault(p, pattern) {
         Fault::Sound => Checked::Sound,
         Fault::Outside(j) => Checked::Refused(Refusal {
             reason: Reason::Outside,
@@ -84,4 +85,18 @@ pub fn check(p: &[u8]) -> Checked
             place: Place::AtJack(j),
         }),
     }
+}
+
+// Whether p is a pattern of 2 to 20 ports.
+pub fn check(p: &[u8]) -> Checked
+    ensures { λ r. ⌜ checkedTold r ≡ checkAs true mostPorts (now (p .entry)) ⌝ }
+{
+    check_as(p, true)
+}
+
+// Whether p is a panel of 2 to 20 ports: a permutation, in which a port may stand at its own jack.
+pub fn check_panel(p: &[u8]) -> Checked
+    ensures { λ r. ⌜ checkedTold r ≡ checkAs false mostPorts (now (p .entry)) ⌝ }
+{
+    check_as(p, false)
 }

@@ -13,7 +13,7 @@ use Rattle.listing.specs.Rank.{rank}
 use Rattle.listing.specs.Orders.{Move}
 use Rattle.listing.specs.Neighbours.{rankBeside, moveBeside}
 use Rattle.listing.specs.Around.{around}
-use Rattle.words.specs.Told.{Told, accepted, refused, nowhere, then}
+use Rattle.words.specs.Told.{Told, accepted, refused, nowhere, then, leaves}
 use Rattle.checks.specs.Calls.{sized, checkOf}
 
 -- refusal 6 unless the rank is below the count
@@ -39,11 +39,6 @@ besideOf most back p = then (checkOf most p) (λ ok. accepted (moveBeside (lengt
 -- the rank that a signed step leads to: 1, then 6
 unfoldable pub stepOf : ℕ → ℕ → ℕ → ℤ → Told ℕ
 stepOf most n r k = sized most n (ranked n r (accepted (around (count n) r k)))
-
--- the bytes that a call leaves: its own if it was accepted, those that it found if it was refused
-abbrev pub leaves : {A : Type 0} → Told A → List ℕ → List ℕ → List ℕ
-leaves (accepted a) made found = made
-leaves (refused k s) made found = found
 
 unfoldable pub unrankBytes : ℕ → ℕ → List ℕ → List ℕ
 unrankBytes most r out = leaves (unrankOf most r out) (at (length out) r) out

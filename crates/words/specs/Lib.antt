@@ -1,2 +1,3 @@
 pub mod Told
 pub mod Meaning
+pub mod Shape

@@ -1,6 +1,7 @@
 -- What a public call tells: that it was accepted, with what it gives, or the paper's number of the refusal and its place.
 -- Assumes nothing.
 use Prim.Native.Nat.{ℕ}
+use mathlib.Core.List.{List}
 
 -- where a fault is: at no place that is said, at a jack of a pattern or panel, at a line of a plan (the paper, 'Refusal numbers')
 pub data Spot : Type 0 where
@@ -23,3 +24,8 @@ pub data Told (A : Type 0) : Type 0 where
 abbrev pub then : {A B : Type 0} → Told A → (A → Told B) → Told B
 then (accepted a) f = f a
 then (refused k s) f = refused k s
+
+-- the bytes that a call leaves: its own if it was accepted, those that it found if it was refused
+abbrev pub leaves : {A : Type 0} → Told A → List ℕ → List ℕ → List ℕ
+leaves (accepted a) made found = made
+leaves (refused k s) made found = found

@@ -1,44 +1,44 @@
--- `checks::checking::check` tells what `checkOf` says: refusal 1 for the length, else the first fault.
+-- `checks::checking::check_as` tells what `checkAs` says: refusal 1 for the length, else the first fault.
 use mathlib.Core.Path.{_≡_, sym, ap, _∙_}
 use borrow.Author.Needs.{needs}
 use Rattle.listing.specs.Limits.{mostPorts}
-use Rattle.checks.specs.Calls.{checkOf}
+use Rattle.checks.specs.Calls.{checkAs}
 use Rattle.checks.specs.Answers.{faultIs}
 use Rattle.checks.proofs.Calls.{too-few, too-many, check-fault}
-use Rattle.checks.proofs.checking.check.Statement.{statement}
-use Rattle.checks.proofs.checking.check.Tie as tie
+use Rattle.checks.proofs.checking.check_as.Statement.{statement}
+use Rattle.checks.proofs.checking.check_as.Tie as tie
 
 returns : tie.Need-returns
-unfolding checkOf
+unfolding checkAs
 returns c = sym (too-few _ _ _ (c .if1 .taken))
 
 returns-2 : tie.Need-returns-2
-unfolding checkOf
+unfolding checkAs
 returns-2 c = sym (too-many _ _ _ (c .before .if1 .left) (c .if2 .taken))
 
 -- the fault that the match found is the first
 returns-3 : tie.Need-returns-3
 returns-3 c =
     let f = c .before .before in
-    check-fault mostPorts _ _ (search needs) (search needs) (ap faultIs (sym (c .enum-told .given .1)) ∙ f .fault .ensures)
+    check-fault _ mostPorts _ _ (search needs) (search needs) (ap faultIs (sym (c .enum-told .given .1)) ∙ f .fault .ensures)
 
 returns-4 : tie.Need-returns-4
 returns-4 c =
     let f = c .before .before .before in
-    check-fault mostPorts _ _ (search needs) (search needs) (ap faultIs (sym (c .before .j .given .1)) ∙ f .fault .ensures)
+    check-fault _ mostPorts _ _ (search needs) (search needs) (ap faultIs (sym (c .before .j .given .1)) ∙ f .fault .ensures)
 
 returns-5 : tie.Need-returns-5
 returns-5 c =
     let f = c .before .before .before in
-    check-fault mostPorts _ _ (search needs) (search needs) (ap faultIs (sym (c .before .j2 .given .1)) ∙ f .fault .ensures)
+    check-fault _ mostPorts _ _ (search needs) (search needs) (ap faultIs (sym (c .before .j2 .given .1)) ∙ f .fault .ensures)
 
 returns-6 : tie.Need-returns-6
 returns-6 c =
     let f = c .before .before .before in
-    check-fault mostPorts _ _ (search needs) (search needs) (ap faultIs (sym (c .before .j3 .given .1)) ∙ f .fault .ensures)
+    check-fault _ mostPorts _ _ (search needs) (search needs) (ap faultIs (sym (c .before .j3 .given .1)) ∙ f .fault .ensures)
 
-pub check-spec : {M : Type 1} → statement M
-check-spec =
+pub check-as-spec : {M : Type 1} → statement M
+check-as-spec =
     tie.close
     (tie.spec
     returns

@@ -1,0 +1,74 @@
+-- `panel::lines::carry` carries an order in shape out, takes mark and end as they come, and on a refusal leaves the panel as it was.
+-- Assumes nothing.
+use mathlib.Core.Path.{_≡_, refl, sym, ap, _∙_}
+use mathlib.Core.Bool.{false}
+use native.Mathlib.Omega.{arith}
+use borrow.Author.Needs.{needs}
+use Rattle.listing.specs.Limits.{mostPorts}
+use Rattle.words.specs.Told.{accepted}
+use Rattle.words.proofs.Shape.{shaped-shape}
+use Rattle.checks.specs.Calls.{checkAs}
+use Rattle.checks.specs.Answers.{checkedTold}
+use Rattle.checks.proofs.Accepted.{accepted-panel}
+use Rattle.panel.proofs.Accepted.{carry-refused, carry-accepted, carry-unfitting}
+use Rattle.panel.proofs.lines.carry.Statement.{statement}
+use Rattle.panel.proofs.lines.carry.Tie as tie
+
+-- the check that the match found sound was accepted
+sound : (c : tie.After-enum-told) → accepted tt ≡ checkAs false mostPorts (c .before .before .before .before .before .args .panel .now)
+sound c = ap checkedTold (sym (c .enum-told .given .1)) ∙ c .before .before .check-panel .ensures
+
+cast-in-shape : tie.Need-cast-in-shape
+cast-in-shape c = omega (arith, accepted-panel mostPorts _ (sound (c .before .before .before)) .high)
+
+carry-order-requires : tie.Need-carry-order-requires
+carry-order-requires c κs = let t = c .before in shaped-shape _ _ (sym (t .before .in-shape .ensures) ∙ t .if1 .taken)
+
+returns : tie.Need-returns
+returns c =
+    let t = c .before .before .before .before in
+    let l = t .before .before .before in
+    let told = carry-accepted mostPorts _ (sound (l .before .before)) _ _ (l .line .given .1) (sym (t .before .in-shape .ensures) ∙ t .if1 .taken) in
+    (told .0, c .before .before .carry-order .ensures ∙ told .1)
+
+returns-2 : tie.Need-returns-2
+returns-2 c = carry-refused mostPorts _ _ _ _ (ap checkedTold (sym (c .before .f .given .1)) ∙ c .before .before .before .check-panel .ensures)
+
+returns-3 : tie.Need-returns-3
+returns-3 c =
+    let t = c .before in
+    let l = t .before .before .before in
+    rw (c .out-of-shape .ensures)
+    (carry-unfitting mostPorts _ (sound (l .before .before)) _ _ (l .line .given .1) (sym (t .before .in-shape .ensures) ∙ t .if1 .left))
+
+-- a mark and the end fit every panel, and the panel after them is the panel
+returns-4 : tie.Need-returns-4
+returns-4 c = carry-accepted mostPorts _ (sound (c .before .before)) _ _ (c .enum-told2 .given .1) refl
+
+returns-5 : tie.Need-returns-5
+returns-5 c = carry-accepted mostPorts _ (sound (c .before .before)) _ _ (c .enum-told3 .given .1) refl
+
+pub carry-spec : {M : Type 1} → statement M
+carry-spec =
+    tie.close
+    (tie.spec
+    (λ c κs. search needs)
+    (λ c. search needs)
+    (λ c. search needs)
+    (λ c. search needs)
+    cast-in-shape
+    (λ c κs. search needs)
+    carry-order-requires
+    (λ c. search needs)
+    returns
+    (λ c κs. search needs)
+    (λ c. search needs)
+    (λ c. search needs)
+    (λ c. search needs)
+    returns-2
+    (λ c. search needs)
+    returns-3
+    (λ c. search needs)
+    returns-4
+    (λ c. search needs)
+    returns-5)

@@ -1,0 +1,56 @@
+-- The test of an order's shape is true exactly if the order is in shape, and that of a number exactly if it is among 1..n.
+-- Assumes nothing.
+use mathlib.Core.Path.{_≡_}
+use mathlib.Core.Bool.{Bool, true, not, _&&_, and-eq-true-iff}
+use Prim.Native.Nat.{ℕ, _≤_, _<_}
+use lib.Dec.{eqb, leb, ltb}
+use borrow.Author.Tests.{leb-true, ltb-true, eqb-false, not-true, le-leb, lt-ltb, ne-eqb}
+use Rattle.listing.specs.Numbers.{Among}
+use Rattle.listing.specs.Orders.{Order, swap, turn, InShape}
+use Rattle.words.specs.Shape.{oneOf, rising, shaped}
+
+-- both tests hold where their conjunction does
+both : (a b : Bool) → (a && b) ≡ true → (a ≡ true) × (b ≡ true)
+both a b e = and-eq-true-iff a b .0 e
+
+-- ---- a number
+
+-- a number that passes the test is among 1..n
+pub one-of : (n x : ℕ) → oneOf n x ≡ true → Among n x
+unfolding oneOf
+one-of n x e = let t = both (leb 1 x) (leb x n) e in (leb-true 1 x (t .0), leb-true x n (t .1))
+
+-- and each number among them passes it
+pub among-one : (n x : ℕ) → Among n x → oneOf n x ≡ true
+unfolding oneOf
+among-one n x h = rw (le-leb 1 x (h .0), le-leb x n (h .1))
+
+-- ---- an order
+
+rising-parts : (n a b : ℕ) → rising n a b ≡ true → (1 ≤ a) × (a < b) × (b ≤ n)
+unfolding rising
+rising-parts n a b e =
+    let t = both (leb 1 a && ltb a b) (leb b n) e in
+    let s = both (leb 1 a) (ltb a b) (t .0) in
+    (leb-true 1 a (s .0), ltb-true a b (s .1), leb-true b n (t .1))
+
+parts-rising : (n a b : ℕ) → 1 ≤ a → a < b → b ≤ n → rising n a b ≡ true
+unfolding rising
+parts-rising n a b low order high = rw (le-leb 1 a low, lt-ltb a b order, le-leb b n high)
+
+-- an order that passes the test is in shape
+pub shaped-shape : (n : ℕ) (o : Order) → shaped n o ≡ true → InShape n o
+unfolding shaped
+shaped-shape n (swap a b) e = rising-parts n a b e
+shaped-shape n (turn a b c) e =
+    let t = both (not (eqb b c) && rising n a b) (rising n a c) e in
+    let s = both (not (eqb b c)) (rising n a b) (t .0) in
+    let ab = rising-parts n a b (s .1) in
+    let ac = rising-parts n a c (t .1) in
+    (ab .0, ab .1, ab .2, ac .1, ac .2, eqb-false b c (not-true (eqb b c) (s .0)))
+
+-- and each order in shape passes it
+pub shape-shaped : (n : ℕ) (o : Order) → InShape n o → shaped n o ≡ true
+unfolding shaped
+shape-shaped n (swap a b) s = parts-rising n a b (s .0) (s .1) (s .2)
+shape-shaped n (turn a b c) s = rw (ne-eqb b c (s .5), parts-rising n a b (s .0) (s .1) (s .2), parts-rising n a c (s .0) (s .3) (s .4))
