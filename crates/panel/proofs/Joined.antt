@@ -1,4 +1,4 @@
--- What the answers of the panel say of it: what is accepted and when, that the two look-ups are each other's inverse, that an order leaves a panel a panel.
+-- What the look-ups say of the panel: what is accepted and when, the port at a jack, the jack that holds a port, and that the two are each other's inverse.
 -- Assumes nothing.
 use mathlib.Core.Path.{_≡_, refl, sym, ap, _∙_}
 use mathlib.Core.Logic.{_≢_}
@@ -12,20 +12,15 @@ use borrow.Author.Tests.{eqb-true, eqb-false}
 use Rattle.listing.specs.Numbers.{Among}
 use Rattle.listing.specs.Pattern.{entry}
 use Rattle.listing.proofs.Numbers.{either, test}
-use Rattle.listing.proofs.Panels.{length-carry}
-use Rattle.listing.proofs.Sources.{carry-permutation}
 use Rattle.listing.proofs.Onto.{stands}
 use Rattle.words.specs.Told.{nowhere, Told, accepted, refused, then}
-use Rattle.words.specs.Meaning.{orderOf}
 use Rattle.words.specs.Shape.{oneOf}
-use Rattle.words.proofs.Shape.{one-of, among-one, shaped-shape}
-use Rattle.words.specs.declared.Line.{Line}
-use Rattle.words.specs.declared.Line.the-variants.{Movement, Mark, End}
+use Rattle.words.proofs.Shape.{one-of, among-one}
 use Rattle.checks.specs.Faults.{seek}
 use Rattle.checks.specs.Calls.{checkAs}
 use Rattle.checks.proofs.Accepted.{Panel, accepted-panel, panel-accepted}
-use Rattle.panel.specs.Calls.{onPanel, portOf, jackOf, lineFits, after, carryOf, carryBytes}
-use Rattle.panel.proofs.Accepted.{fitting, carry-accepted}
+use Rattle.panel.specs.Calls.{onPanel, portOf, jackOf}
+use Rattle.panel.proofs.Accepted.{fitting}
 
 -- ---- what is accepted, and when
 
@@ -37,7 +32,7 @@ parts (refused k s) fits a b e = absurd (let z : _≡_ {A = ℕ} 0 1 = cc in ome
 
 module _ {A : Type 0} (most : ℕ) (p : List ℕ) (fits : Bool) where
   -- an accepted call found a permutation of 2 to `most` ports and something that fits it, and gives what is defined
-  told-fits : (a b : A) → accepted a ≡ onPanel most p fits b → Panel most p × (fits ≡ true) × (a ≡ b)
+  pub told-fits : (a b : A) → accepted a ≡ onPanel most p fits b → Panel most p × (fits ≡ true) × (a ≡ b)
   unfolding onPanel
   told-fits a b e = let t = parts (checkAs false most p) fits a b e in (accepted-panel most p (t .0), t .1, t .2)
 
@@ -106,24 +101,3 @@ port-jack most p j v e = let t = port-told most p j v e in rw (t .2) at (told-ja
 -- the port at the jack that holds port v is v
 pub jack-port : (most : ℕ) (p : List ℕ) (j v : ℕ) → accepted j ≡ jackOf most p v → accepted v ≡ portOf most p j
 jack-port most p j v e = let t = jack-told most p v j e in rw (t .2) at (told-port most p j (t .0) (t .1))
-
--- ---- a line carried out
-
--- the panel after a line that fits is a panel of as many jacks
-after-panel : (most : ℕ) (l : Line) (p : List ℕ) → Panel most p → lineFits (length p) l ≡ true → Panel most (after l p)
-after-panel most (Movement o) p P t =
-    let long = length-carry (orderOf o) p in
-    record {
-      low = rw long (P .low);
-      high = rw long (P .high);
-      panel = rw long (carry-permutation (length p) (orderOf o) p (shaped-shape (length p) (orderOf o) t) (P .panel));
-    }
-after-panel most (Mark m r) p P t = P
-after-panel most (End m) p P t = P
-
--- an accepted line leaves a panel, on which the next one is not refused for the panel
-pub carried-panel : (most : ℕ) (l : Line) (p : List ℕ) → accepted tt ≡ carryOf most l p → Panel most (carryBytes most l p)
-unfolding carryOf
-carried-panel most l p e =
-    let t = told-fits most p (lineFits (length p) l) tt tt e in
-    rw (carry-accepted most p (panel-accepted most p (t .0)) l l refl (t .1) .1) at (after-panel most l p (t .0) (t .1))
