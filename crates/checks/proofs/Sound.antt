@@ -1,6 +1,6 @@
 -- The check accepts exactly the patterns, and as a panel exactly the permutations.
 -- Assumes nothing.
-use mathlib.Core.Path.{_≡_, refl, sym, ap, _∙_}
+use mathlib.Core.Path.{_≡_, refl, sym}
 use mathlib.Core.Logic.{_≢_}
 use mathlib.Core.Bool.{Bool, true, false, cond}
 use mathlib.Core.List.{List}
@@ -8,7 +8,7 @@ use Prim.Native.Nat.{ℕ, zero, suc, _+_, _≤_, _<_}
 use native.Mathlib.Omega.{arith}
 use lib.Dec.{eqb, leb}
 use lib.ListN.{length}
-use borrow.Author.Tests.{eqb-true, eqb-false, leb-true, eq-eqb, ne-eqb, le-leb}
+use borrow.Author.Tests.{eqb-true, eqb-false, leb-true, ne-eqb, le-leb}
 use Rattle.listing.specs.Numbers.{Among, before}
 use Rattle.listing.specs.Pattern.{entry, Permutation, Derangement}
 use Rattle.listing.proofs.Numbers.{either, test, below?, same?, suc-before}

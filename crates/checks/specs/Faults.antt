@@ -1,7 +1,7 @@
 -- The first fault of a pattern or a panel (the paper, 'Refusal numbers': jacks are tried from 1, each for 3, 4, 5; the first position at fault decides).
 -- Assumes nothing.
 use Prim.Native.Nat.{ℕ, zero, suc}
-use mathlib.Core.Bool.{Bool, true, false, cond}
+use mathlib.Core.Bool.{Bool, cond}
 use mathlib.Core.List.{List}
 use lib.Dec.{eqb, leb}
 use lib.ListN.{length}

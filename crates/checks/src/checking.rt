@@ -10,7 +10,7 @@ ghost use mathlib.Core.Bool.{true, false};
 ghost use Prim.Native.Nat.{_≤_};
 ghost use lib.ListN.{length};
 ghost use Rattle.listing.specs.Limits.{mostPorts};
-ghost use Rattle.checks.specs.Faults.{faultOf, faultTold};
+ghost use Rattle.checks.specs.Faults.{faultOf};
 ghost use Rattle.checks.specs.Calls.{checkAs};
 ghost use Rattle.checks.specs.Answers.{faultIs, checkedTold};
 

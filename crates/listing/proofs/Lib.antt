@@ -23,3 +23,4 @@ pub mod Neighbours
 pub mod Around
 pub mod Limits
 pub mod Reading
+pub mod Onto

@@ -44,7 +44,7 @@ unfolding source
 source-unnamed (swap a b) j e = is-other j a _ _ (e .0) ∙ is-other j b _ _ (e .1)
 source-unnamed (turn a b c) j e = is-other j a _ _ (e .0) ∙ is-other j b _ _ (e .1) ∙ is-other j c _ _ (e .2)
 
--- the first and the second jack of a swap, and of a turn
+-- each jack of a swap, and of a turn
 pub swap-first : (a b : ℕ) → source (swap a b) a ≡ b
 unfolding source
 swap-first a b = is-same a a b _ refl
@@ -60,6 +60,9 @@ turn-first a b c = is-same a a b _ refl
 pub turn-second : (a b c : ℕ) → a < b → source (turn a b c) b ≡ c
 unfolding source
 turn-second a b c h = is-other b a b _ (omega arith) ∙ is-same b b c _ refl
+
+pub turn-third : (a b c : ℕ) → a < c → b ≢ c → source (turn a b c) c ≡ a
+turn-third a b c l d = by-turn (λ k. k ≡ a) a b c c (λ e. omega arith) (λ na e. omega arith) (λ na nb e. refl) (λ na nb nc. omega arith)
 
 -- ---- an order in shape for n jacks
 

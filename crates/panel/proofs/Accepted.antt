@@ -7,7 +7,7 @@ use Prim.Native.Nat.{ℕ, zero, suc, _-_, _≤_}
 use native.Mathlib.Omega.{arith}
 use lib.ListN.{length, getD}
 use Rattle.listing.specs.Pattern.{entry}
-use Rattle.words.specs.Told.{Spot, nowhere, Told, accepted, refused}
+use Rattle.words.specs.Told.{Spot, nowhere, accepted, refused}
 use Rattle.words.specs.declared.Line.{Line}
 use Rattle.checks.specs.Calls.{checkAs}
 use Rattle.panel.specs.Calls.{onPanel, lineFits, after, carryOf, carryBytes}

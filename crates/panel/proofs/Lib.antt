@@ -1,1 +1,4 @@
 pub mod Accepted
+pub mod Joined
+pub mod Carried
+pub mod Only

@@ -20,7 +20,8 @@ pub fn carry(panel: &mut [u8], line: Line) -> Carried
         Checked::Refused(f) => Carried::Refused(f),
         Checked::Sound => match line {
             Line::Movement(o) => {
-                if in_shape(panel.len() as u8, o) {
+                let n = panel.len() as u8;
+                if in_shape(n, o) {
                     carry_order(o, panel);
                     return Carried::Done;
                 }

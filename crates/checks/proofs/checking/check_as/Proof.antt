@@ -1,5 +1,5 @@
 -- `checks::checking::check_as` tells what `checkAs` says: refusal 1 for the length, else the first fault.
-use mathlib.Core.Path.{_≡_, sym, ap, _∙_}
+use mathlib.Core.Path.{sym, ap, _∙_}
 use borrow.Author.Needs.{needs}
 use Rattle.listing.specs.Limits.{mostPorts}
 use Rattle.checks.specs.Calls.{checkAs}

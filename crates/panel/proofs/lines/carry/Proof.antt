@@ -18,8 +18,8 @@ use Rattle.panel.proofs.lines.carry.Tie as tie
 sound : (c : tie.After-enum-told) → accepted tt ≡ checkAs false mostPorts (c .before .before .before .before .before .args .panel .now)
 sound c = ap checkedTold (sym (c .enum-told .given .1)) ∙ c .before .before .check-panel .ensures
 
-cast-in-shape : tie.Need-cast-in-shape
-cast-in-shape c = omega (arith, accepted-panel mostPorts _ (sound (c .before .before .before)) .high)
+cast-n : tie.Need-cast-n
+cast-n c = omega (arith, accepted-panel mostPorts _ (sound (c .before .before .before)) .high)
 
 carry-order-requires : tie.Need-carry-order-requires
 carry-order-requires c κs = let t = c .before in shaped-shape _ _ (sym (t .before .in-shape .ensures) ∙ t .if1 .taken)
@@ -56,7 +56,7 @@ carry-spec =
     (λ c. search needs)
     (λ c. search needs)
     (λ c. search needs)
-    cast-in-shape
+    cast-n
     (λ c κs. search needs)
     carry-order-requires
     (λ c. search needs)

@@ -1,0 +1,103 @@
+-- What the look-ups say of the panel: what is accepted and when, the port at a jack, the jack that holds a port, and that the two are each other's inverse.
+-- Assumes nothing.
+use mathlib.Core.Path.{_≡_, refl, sym, ap, _∙_}
+use mathlib.Core.Logic.{_≢_}
+use mathlib.Core.Bool.{Bool, true, false, cond}
+use mathlib.Core.List.{List}
+use Prim.Native.Nat.{ℕ, zero, suc, _+_, _≤_, _<_}
+use native.Mathlib.Omega.{arith}
+use lib.Dec.{eqb}
+use lib.ListN.{length}
+use borrow.Author.Tests.{eqb-true, eqb-false}
+use Rattle.listing.specs.Numbers.{Among}
+use Rattle.listing.specs.Pattern.{entry}
+use Rattle.listing.proofs.Numbers.{either, test}
+use Rattle.listing.proofs.Onto.{stands}
+use Rattle.words.specs.Told.{nowhere, Told, accepted, refused, then}
+use Rattle.words.specs.Shape.{oneOf}
+use Rattle.words.proofs.Shape.{one-of, among-one}
+use Rattle.checks.specs.Faults.{seek}
+use Rattle.checks.specs.Calls.{checkAs}
+use Rattle.checks.proofs.Accepted.{Panel, accepted-panel, panel-accepted}
+use Rattle.panel.specs.Calls.{onPanel, portOf, jackOf}
+use Rattle.panel.proofs.Accepted.{fitting}
+
+-- ---- what is accepted, and when
+
+parts : {A : Type 0} (t : Told (Unit {0})) (fits : Bool) (a b : A) → accepted a ≡ then t (λ ok. cond fits (accepted b) (refused 17 nowhere))
+    → (accepted tt ≡ t) × (fits ≡ true) × (a ≡ b)
+parts (accepted ok) true a b e = (refl, refl, cc)
+parts (accepted ok) false a b e = absurd (let z : _≡_ {A = ℕ} 0 1 = cc in omega arith)
+parts (refused k s) fits a b e = absurd (let z : _≡_ {A = ℕ} 0 1 = cc in omega arith)
+
+module _ {A : Type 0} (most : ℕ) (p : List ℕ) (fits : Bool) where
+  -- an accepted call found a permutation of 2 to `most` ports and something that fits it, and gives what is defined
+  pub told-fits : (a b : A) → accepted a ≡ onPanel most p fits b → Panel most p × (fits ≡ true) × (a ≡ b)
+  unfolding onPanel
+  told-fits a b e = let t = parts (checkAs false most p) fits a b e in (accepted-panel most p (t .0), t .1, t .2)
+
+  -- and on each of these it is accepted, with a port at its own jack or without
+  fits-told : (a : A) → Panel most p → fits ≡ true → accepted a ≡ onPanel most p fits a
+  fits-told a P t = fitting most p fits a (panel-accepted most p P) t
+
+-- ---- the port at a jack
+
+pub port-told : (most : ℕ) (p : List ℕ) (j v : ℕ) → accepted v ≡ portOf most p j → Panel most p × Among (length p) j × (entry p j ≡ v)
+unfolding portOf
+port-told most p j v e = let t = told-fits most p (oneOf (length p) j) v (entry p j) e in (t .0, one-of (length p) j (t .1), sym (t .2))
+
+pub told-port : (most : ℕ) (p : List ℕ) (j : ℕ) → Panel most p → Among (length p) j → accepted (entry p j) ≡ portOf most p j
+unfolding portOf
+told-port most p j P h = fits-told most p (oneOf (length p) j) (entry p j) P (among-one (length p) j h)
+
+-- ---- the jack that holds a port
+
+-- if one of the jacks holds the port, the first that does is one of them
+finds : (p : List ℕ) (v i k a : ℕ) → i ≤ a → a < i + k → entry p a ≡ v
+    → (i ≤ seek p v i k) × (seek p v i k < i + k) × (entry p (seek p v i k) ≡ v)
+unfolding seek
+finds p v i zero a h l e = absurd (omega arith)
+finds p v i (suc k) a h l e =
+    either (test (eqb (entry p i) v))
+    (λ t. rw t (omega arith, omega arith, eqb-true (entry p i) v t))
+    (λ t.
+    let other : a ≢ i = λ s. eqb-false (entry p i) v t (ap (entry p) (sym s) ∙ e) in
+    let later = finds p v (suc i) k a (omega arith) (omega arith) e in
+    rw t (omega arith, omega arith, later .2))
+
+module _ (most : ℕ) (p : List ℕ) (P : Panel most p) where
+  -- every port of a panel has its jack
+  held : (v : ℕ) → Among (length p) v → Among (length p) (seek p v 1 (length p)) × (entry p (seek p v 1 (length p)) ≡ v)
+  held v h =
+      let s = stands (length p) p (P .panel) v h in
+      let f = finds p v 1 (length p) (s .0) (s .1 .0) (omega (arith, s .1)) (s .2) in
+      (omega arith, f .2)
+
+  -- and no other
+  only-held : (v j : ℕ) → Among (length p) j → entry p j ≡ v → seek p v 1 (length p) ≡ j
+  only-held v j h e =
+      let f = held v (rw e at (P .panel .ports j h)) in
+      P .panel .apart (seek p v 1 (length p)) j (f .0) h (f .1 ∙ sym e)
+
+pub jack-told : (most : ℕ) (p : List ℕ) (v j : ℕ) → accepted j ≡ jackOf most p v → Panel most p × Among (length p) j × (entry p j ≡ v)
+unfolding jackOf
+jack-told most p v j e =
+    let t = told-fits most p (oneOf (length p) v) j (seek p v 1 (length p)) e in
+    let f = held most p (t .0) v (one-of (length p) v (t .1)) in
+    rw (t .2) (t .0, f .0, f .1)
+
+pub told-jack : (most : ℕ) (p : List ℕ) (j : ℕ) → Panel most p → Among (length p) j → accepted j ≡ jackOf most p (entry p j)
+unfolding jackOf
+told-jack most p j P h =
+    rw (only-held most p P (entry p j) j h refl)
+    (fits-told most p (oneOf (length p) (entry p j)) j P (among-one (length p) (entry p j) (P .panel .ports j h)))
+
+-- ---- the look-ups are inverse
+
+-- the jack that holds the port at jack j is j
+pub port-jack : (most : ℕ) (p : List ℕ) (j v : ℕ) → accepted v ≡ portOf most p j → accepted j ≡ jackOf most p v
+port-jack most p j v e = let t = port-told most p j v e in rw (t .2) at (told-jack most p j (t .0) (t .1))
+
+-- the port at the jack that holds port v is v
+pub jack-port : (most : ℕ) (p : List ℕ) (j v : ℕ) → accepted j ≡ jackOf most p v → accepted v ≡ portOf most p j
+jack-port most p j v e = let t = jack-told most p v j e in rw (t .2) at (told-port most p j (t .0) (t .1))
