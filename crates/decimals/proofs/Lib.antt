@@ -1,0 +1,4 @@
+pub mod Digits
+pub mod Inverse
+pub mod Lengths
+pub mod Limits

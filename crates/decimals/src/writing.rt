@@ -1,0 +1,47 @@
+// Numbers written as text.
+use crate::Text;
+ghost use mathlib.Core.Path.{_≡_};
+ghost use lib.ListN.{length, take};
+ghost use Rattle.decimals.specs.Decimal.{digitsOf};
+ghost use Rattle.decimals.specs.Answers.{TextOf};
+
+// How many digits n has.
+pub fn places(n: u64) -> usize
+    ensures { λ r. ⌜ r ≡ length (digitsOf n) ⌝ }
+{
+    let mut k: usize = 1;
+    let mut rest = n;
+    while 10 <= rest {
+        rest /= 10;
+        k += 1;
+    }
+    k
+}
+
+// The digits of n at the start of an array, k of them, from the last to the first.
+fn spelt(n: u64, k: usize) -> [u8; 20]
+    requires { ⌜ k ≡ length (digitsOf n) ⌝ }
+    ensures { λ r. ⌜ take k r ≡ digitsOf n ⌝ }
+{
+    let mut bytes = [0u8; 20];
+    let mut at = k - 1;
+    let mut rest = n;
+    while 10 <= rest {
+        bytes[at] = 48 + (rest % 10) as u8;
+        at -= 1;
+        rest /= 10;
+    }
+    bytes[at] = 48 + rest as u8;
+    bytes
+}
+
+// The text of n.
+pub fn digits(n: u64) -> Text
+    ensures { λ r. ⌜ TextOf n r ⌝ }
+{
+    let k = places(n);
+    Text {
+        bytes: spelt(n, k),
+        len: k,
+    }
+}
