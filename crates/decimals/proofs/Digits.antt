@@ -23,7 +23,7 @@ unfolding spell
 spell-more k n h = rw (le-ltb n 10 h)
 
 -- the tens of a number from 10 on are fewer than it
-fewer-tens : (n : ℕ) → 10 ≤ n → n / 10 < n
+pub fewer-tens : (n : ℕ) → 10 ≤ n → n / 10 < n
 fewer-tens n h = div-lt-self (omega arith) (omega arith)
 
 -- all numbers of divisions that are enough give the same text

@@ -19,12 +19,14 @@ none-some n e = let z : _≡_ {A = ℕ} 0 1 = cc in omega arith
 
 -- ---- digits
 
+-- a byte from `0` to `9` is a digit
+pub digit-byte : (b : ℕ) → 48 ≤ b → b < 58 → digitIn b ≡ some (b - 48)
+unfolding digitIn
+digit-byte b low high = rw (le-ltb b 48 low, lt-ltb b 58 high)
+
 -- the byte of a digit is that digit
 pub digit-glyph : (d : ℕ) → d < 10 → digitIn (glyph d) ≡ some d
-unfolding digitIn
-digit-glyph d h =
-    let same : 48 + d - 48 ≡ d = omega arith in
-    rw (le-ltb (48 + d) 48 (omega arith), lt-ltb (48 + d) 58 (omega arith), same)
+digit-glyph d h = digit-byte (glyph d) (omega arith) (omega arith) ∙ ap some (omega arith)
 
 -- any other byte is no digit
 pub no-digit : (b : ℕ) → (b < 48) ⊎ (58 ≤ b) → digitIn b ≡ none
@@ -45,6 +47,10 @@ digit-cases b =
 pub and-digit : (v d : ℕ) → 1 ≤ v → andDigit (some v) (some d) ≡ some (v * 10 + d)
 and-digit zero d h = absurd (omega arith)
 and-digit (suc u) d h = refl
+
+-- the same number and the same digit give the same
+pub and-parts : {o v p d : Option ℕ} → o ≡ v → p ≡ d → andDigit o p ≡ andDigit v d
+and-parts e f = cc
 
 -- without a digit there is no number
 pub and-none : (o : Option ℕ) → andDigit o none ≡ none

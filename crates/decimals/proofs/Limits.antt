@@ -12,7 +12,7 @@ use lib.Seq.{drop-cons}
 use borrow.Author.Tests.{le-leb, lt-leb}
 use Rattle.listing.proofs.Numbers.{either, below?}
 use Rattle.decimals.specs.Decimal.{glyph, digitsOf, digitIn, andDigit, onward, numberIn, upTo, numberUpTo}
-use Rattle.decimals.proofs.Inverse.{none-some, digit-glyph, digit-cases, byte-more, onward-none, number-of-digits, digits-of-number}
+use Rattle.decimals.proofs.Inverse.{none-some, digit-glyph, digit-cases, and-digit, byte-more, onward-none, number-of-digits, digits-of-number}
 
 module _ (most : ℕ) where
   -- ---- the largest number
@@ -76,6 +76,19 @@ module _ (most : ℕ) where
       either (below? most v)
       (λ h. ap (λ o. upTo most (onward o t)) (above v h) ∙ ap (upTo most) (onward-none t) ∙ none-up-to ∙ sym (onward-above t v h))
       (λ h. ap (λ o. upTo most (onward o t)) (within v h))
+
+  -- nothing follows a 0
+  pub more-zero : (v d : ℕ) → v < 1 → upTo most (andDigit (some v) (some d)) ≡ none
+  more-zero zero d h = none-up-to
+  more-zero (suc u) d h = absurd (omega arith)
+
+  -- one digit more, and it is too large
+  pub more-above : (v d : ℕ) → 1 ≤ v → most < v * 10 + d → upTo most (andDigit (some v) (some d)) ≡ none
+  more-above v d h l = ap (upTo most) (and-digit v d h) ∙ above (v * 10 + d) l
+
+  -- one digit more, and it is not
+  pub more-within : (v d : ℕ) → 1 ≤ v → v * 10 + d ≤ most → upTo most (andDigit (some v) (some d)) ≡ some (v * 10 + d)
+  more-within v d h l = ap (upTo most) (and-digit v d h) ∙ within (v * 10 + d) l
 
   -- one byte more is read
   pub read-on : (t : List ℕ) (at : ℕ) (o : Option ℕ) → at < length t

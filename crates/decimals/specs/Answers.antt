@@ -1,8 +1,9 @@
 -- What each answer of the readers says.
 -- Assumes nothing.
-use Prim.Native.Nat.{ℕ}
+use Prim.Native.Nat.{ℕ, _-_}
 use mathlib.Core.Path.{_≡_}
-use lib.ListN.{length, take}
+use mathlib.Core.List.{_++_}
+use lib.ListN.{length, replicate}
 use Rattle.decimals.specs.Decimal.{digitsOf}
 use Rattle.decimals.specs.declared.Text.{Text}
 use mathlib.Core.Option.{Option, none, some}
@@ -23,7 +24,7 @@ signedIs (Ahead n) = some (ahead n)
 signedIs (Behind n) = some (behind n)
 signedIs Signed-Bad = none
 
--- r is the text of n: its first bytes are the digits of n, and its length says how many
+-- r is the text of n: the digits of n at its front, and how many they are; the bytes after them are 0
 pub record TextOf (n : ℕ) (r : Text) : Type 0 where
-  pub bytes : take (r .len) (r .bytes) ≡ digitsOf n
+  pub bytes : r .bytes ≡ digitsOf n ++ replicate (20 - r .len) 0
   pub len : r .len ≡ length (digitsOf n)

@@ -1,7 +1,9 @@
 // Numbers written as text.
 use crate::Text;
 ghost use mathlib.Core.Path.{_≡_};
-ghost use lib.ListN.{length, take};
+ghost use mathlib.Core.List.{_++_};
+ghost use Prim.Native.Nat.{_-_};
+ghost use lib.ListN.{length, replicate};
 ghost use Rattle.decimals.specs.Decimal.{digitsOf};
 ghost use Rattle.decimals.specs.Answers.{TextOf};
 
@@ -18,10 +20,10 @@ pub fn places(n: u64) -> usize
     k
 }
 
-// The digits of n at the start of an array, k of them, from the last to the first.
+// The digits of n, k of them, at the start of an array of zeros; they are set from the last to the first.
 fn spelt(n: u64, k: usize) -> [u8; 20]
     requires { ⌜ k ≡ length (digitsOf n) ⌝ }
-    ensures { λ r. ⌜ take k r ≡ digitsOf n ⌝ }
+    ensures { λ r. ⌜ r ≡ digitsOf n ++ replicate (20 - k) 0 ⌝ }
 {
     let mut bytes = [0u8; 20];
     let mut at = k - 1;
