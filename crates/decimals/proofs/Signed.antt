@@ -5,10 +5,11 @@ use mathlib.Core.Logic.{_≢_, inl}
 use mathlib.Core.Bool.{Bool, true, false, cond}
 use mathlib.Core.List.{List, [], _∷_}
 use mathlib.Core.Option.{Option, none, some}
-use Prim.Native.Nat.{ℕ, zero, suc, _≤_, _<_}
+use Prim.Native.Nat.{ℕ, zero, suc, _-_, _≤_, _<_}
 use native.Mathlib.Omega.{arith}
 use borrow.Author.Tests.{eq-eqb, ne-eqb}
-use lib.ListN.{length, getD, drop}
+use lib.ListN.{length, getD, take, drop, length-drop}
+use lib.Seq.{take-all}
 use Rattle.listing.proofs.Numbers.{either, same?}
 use Rattle.decimals.specs.Decimal.{digitsOf, digitIn, onward, numberIn, upTo, numberUpTo}
 use Rattle.decimals.specs.Signed.{Signed, ahead, behind, magnitude, Proper, minus, signedDigits, plain, negative, signedUpTo}
@@ -47,10 +48,21 @@ signed-minus most [] h e = absurd (omega arith)
 signed-minus most (b ∷ t) h e = rw (eq-eqb b minus e)
 
 -- with any other byte first the whole is the magnitude
-pub signed-plain : (most : ℕ) (t : List ℕ) → getD t 0 0 ≢ minus → 1 ≤ length t → signedUpTo most t ≡ plain (numberUpTo most t)
+pub signed-plain : (most : ℕ) (t : List ℕ) → 1 ≤ length t → getD t 0 0 ≢ minus → signedUpTo most t ≡ plain (numberUpTo most t)
 unfolding signedUpTo
-signed-plain most [] d h = absurd (omega arith)
-signed-plain most (b ∷ t) d h = rw (ne-eqb b minus d)
+signed-plain most [] h d = absurd (omega arith)
+signed-plain most (b ∷ t) h d = rw (ne-eqb b minus d)
+
+-- what a reader makes of the magnitude o that it read after `-`
+pub read-behind : (most : ℕ) (t : List ℕ) (o : Option ℕ) → 1 ≤ length t → getD t 0 0 ≡ minus → o ≡ numberUpTo most (take (length t - 1) (drop 1 t))
+    → signedUpTo most t ≡ negative o
+read-behind most t o h e f =
+    let all : take (length t - 1) (drop 1 t) ≡ drop 1 t = take-all (length t - 1) (drop 1 t) (omega (arith, length-drop 1 t)) in
+    signed-minus most t h e ∙ ap negative (sym (f ∙ ap (numberUpTo most) all))
+
+-- and of the magnitude o that it read with no `-` before it
+pub read-ahead : (most : ℕ) (t : List ℕ) (o : Option ℕ) → 1 ≤ length t → getD t 0 0 ≢ minus → o ≡ numberUpTo most t → signedUpTo most t ≡ plain o
+read-ahead most t o h d f = signed-plain most t h d ∙ ap plain (sym f)
 
 -- ---- both ways
 
@@ -97,4 +109,4 @@ digits-of-signed most [] s e = absurd (none-signed s e)
 digits-of-signed most (b ∷ t) s e =
     either (same? b minus)
     (λ m. rw m (spelt-negative most t (numberUpTo most t) s refl (sym (signed-minus most (b ∷ t) (omega arith) m) ∙ e)))
-    (λ d. spelt-plain most (b ∷ t) (numberUpTo most (b ∷ t)) s refl (sym (signed-plain most (b ∷ t) d (omega arith)) ∙ e))
+    (λ d. spelt-plain most (b ∷ t) (numberUpTo most (b ∷ t)) s refl (sym (signed-plain most (b ∷ t) (omega arith) d) ∙ e))

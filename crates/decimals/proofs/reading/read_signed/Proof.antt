@@ -1,13 +1,14 @@
+-- `decimals::reading::read_signed` gives the signed number that the text is: after `-` the rest is the magnitude, and not 0; else the whole is.
+use mathlib.Core.Path.{sym, ap, _∙_}
 use borrow.Author.Needs.{needs}
+use Rattle.listing.specs.Limits.{largest64}
+use Rattle.decimals.specs.Answers.{readIs}
+use Rattle.decimals.proofs.Signed.{signed-empty, read-behind, read-ahead}
 use Rattle.decimals.proofs.reading.read_signed.Statement.{statement}
 use Rattle.decimals.proofs.reading.read_signed.Tie as tie
-use Rattle.decimals.proofs.reading.read_signed.Reads as reads
-use Rattle.decimals.proofs.reading.read_signed.Lts as lts
-use Rattle.decimals.proofs.reading.behind.Reads as behind-reads
-use Rattle.decimals.proofs.reading.read_number.Reads as read-number-reads
 
 returns : tie.Need-returns
-returns c = ?
+returns c = sym (signed-empty largest64 _ (c .if1 .taken))
 
 shared-slice-read-if2 : tie.Need-shared-slice-read-if2
 shared-slice-read-if2 c = search needs
@@ -43,16 +44,30 @@ enum-told-2 : tie.Need-enum-told-2
 enum-told-2 c = search needs
 
 returns-2 : tie.Need-returns-2
-returns-2 c = ?
+returns-2 c =
+    let n = c .before .before .before .before in
+    let i = n .before .before in
+    c .behind .ensures
+    ∙ sym
+    (read-behind largest64 _ _ (i .before .before .if1 .left) (i .if2 .taken) (sym (ap readIs (c .before .before .m .given .1)) ∙ n .read-number .ensures))
 
 returns-3 : tie.Need-returns-3
-returns-3 c = ?
+returns-3 c =
+    let n = c .before .before in
+    let i = n .before .before in
+    sym (read-behind largest64 _ _ (i .before .before .if1 .left) (i .if2 .taken) (sym (ap readIs (c .enum-told .given .1)) ∙ n .read-number .ensures))
 
 returns-4 : tie.Need-returns-4
-returns-4 c = ?
+returns-4 c =
+    let n = c .before .before .before in
+    let i = n .before in
+    sym (read-ahead largest64 _ _ (i .before .before .if1 .left) (i .if2 .left) (sym (ap readIs (c .before .m2 .given .1)) ∙ n .read-number2 .ensures))
 
 returns-5 : tie.Need-returns-5
-returns-5 c = ?
+returns-5 c =
+    let n = c .before .before in
+    let i = n .before in
+    sym (read-ahead largest64 _ _ (i .before .before .if1 .left) (i .if2 .left) (sym (ap readIs (c .enum-told2 .given .1)) ∙ n .read-number2 .ensures))
 
 pub read-signed-spec : {M : Type 1} → statement M
 read-signed-spec =
