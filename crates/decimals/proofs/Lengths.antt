@@ -1,8 +1,8 @@
 -- How long the text of a number is: at most k digits for a number below 10 ^ k, more for any other; at most 20 for 64 bits, and a number that has them.
 -- Assumes nothing.
 use mathlib.Core.Path.{_≡_, refl, sym, ap, _∙_}
-use mathlib.Core.List.{List, [], _∷_, _++_}
-use Prim.Native.Nat.{ℕ, zero, suc, _+_, _*_, _/_, _%_, _^_, _≤_, _<_}
+use mathlib.Core.List.{[], _∷_}
+use Prim.Native.Nat.{ℕ, zero, suc, _+_, _/_, _%_, _^_, _≤_, _<_}
 use native.Mathlib.Nat.{mod-lt, div-add-mod'}
 use native.Mathlib.Omega.{arith}
 use lib.ListN.{length, length-append}
@@ -46,6 +46,16 @@ digits-above (suc k) n h =
     power : (j : ℕ) → 1 ≤ 10 ^ j
     power zero = omega arith
     power (suc j) = let e : 1 ≤ 10 ^ j = power j in omega arith
+
+-- a larger number has no fewer digits
+pub digits-no-fewer : (a b : ℕ) → a ≤ b → length (digitsOf a) ≤ length (digitsOf b)
+digits-no-fewer =
+    by-tens (λ a. (b : ℕ) → a ≤ b → length (digitsOf a) ≤ length (digitsOf b))
+    (λ a h b l. omega (arith, length-one a h, length-some b))
+    (λ a h e b l.
+    let last : b % 10 < 10 = mod-lt b (omega arith) in
+    let tens : length (digitsOf (a / 10)) ≤ length (digitsOf (b / 10)) = e (b / 10) (omega (arith, div-add-mod' a 10, div-add-mod' b 10)) in
+    omega (arith, length-more a h, length-more b (omega arith)))
 
 -- a number of 64 bits has at most 20 digits
 pub digits-64 : (n : ℕ) → n ≤ largest64 → length (digitsOf n) ≤ 20

@@ -4,3 +4,6 @@ pub mod Lengths
 pub mod Limits
 pub mod Signed
 pub mod Texts
+pub mod Shape
+pub mod Only
+pub mod Cases

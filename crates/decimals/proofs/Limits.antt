@@ -1,7 +1,6 @@
 -- Numbers up to the largest that the device holds: both ways once more, and what a reader may conclude as soon as a number is too large.
 -- Assumes nothing.
 use mathlib.Core.Path.{_≡_, refl, sym, ap, _∙_}
-use mathlib.Core.Logic.{_⊎_, inl, inr}
 use mathlib.Core.List.{List, [], _∷_}
 use mathlib.Core.Option.{Option, none, some}
 use Prim.Native.Nat.{ℕ, zero, suc, _+_, _*_, _≤_, _<_}
@@ -11,7 +10,7 @@ use lib.ListN.{length, getD, drop, drop-of-length-le}
 use lib.Seq.{drop-cons}
 use borrow.Author.Tests.{le-leb, lt-leb}
 use Rattle.listing.proofs.Numbers.{either, below?}
-use Rattle.decimals.specs.Decimal.{glyph, digitsOf, digitIn, andDigit, onward, numberIn, upTo, numberUpTo}
+use Rattle.decimals.specs.Decimal.{digitsOf, digitIn, andDigit, onward, numberIn, upTo, numberUpTo}
 use Rattle.decimals.proofs.Inverse.{none-some, digit-glyph, digit-cases, and-digit, byte-more, onward-none, number-of-digits, digits-of-number}
 
 module _ (most : ℕ) where

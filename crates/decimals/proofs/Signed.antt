@@ -2,7 +2,6 @@
 -- Assumes nothing.
 use mathlib.Core.Path.{_≡_, refl, sym, ap, _∙_}
 use mathlib.Core.Logic.{_≢_, inl}
-use mathlib.Core.Bool.{Bool, true, false, cond}
 use mathlib.Core.List.{List, [], _∷_}
 use mathlib.Core.Option.{Option, none, some}
 use Prim.Native.Nat.{ℕ, zero, suc, _-_, _≤_, _<_}
@@ -11,7 +10,7 @@ use borrow.Author.Tests.{eq-eqb, ne-eqb}
 use lib.ListN.{length, getD, take, drop, length-drop}
 use lib.Seq.{take-all}
 use Rattle.listing.proofs.Numbers.{either, same?}
-use Rattle.decimals.specs.Decimal.{digitsOf, digitIn, onward, numberIn, upTo, numberUpTo}
+use Rattle.decimals.specs.Decimal.{digitsOf, onward, numberIn, upTo, numberUpTo}
 use Rattle.decimals.specs.Signed.{Signed, ahead, behind, magnitude, Proper, minus, signedDigits, plain, negative, signedUpTo}
 use Rattle.decimals.proofs.Inverse.{none-some, no-digit, onward-none}
 use Rattle.decimals.proofs.Limits.{none-up-to, number-up-to, digits-up-to}
@@ -93,14 +92,14 @@ none-signed s e = let z : _≡_ {A = ℕ} 0 1 = cc in omega arith
 
 spelt-plain : (most : ℕ) (t : List ℕ) (o : Option ℕ) (s : Signed) → numberUpTo most t ≡ o → plain o ≡ some s → Spelt most t s
 spelt-plain most t none s e f = absurd (none-signed s f)
-spelt-plain most t (some n) s e f = let x = digits-up-to most t n e in let g : ahead n ≡ s = cc in rw (sym g) (record { text = x .0; proper = tt; within = x .1; })
+spelt-plain most t (some n) s e f = let x = digits-up-to most t n e in let g : ahead n ≡ s = cc in rw (sym g) (record { text = x .0; proper = tt; within = x .1 })
 
 spelt-negative : (most : ℕ) (t : List ℕ) (o : Option ℕ) (s : Signed) → numberUpTo most t ≡ o → negative o ≡ some s → Spelt most (minus ∷ t) s
 spelt-negative most t none s e f = absurd (none-signed s f)
 spelt-negative most t (some zero) s e f = absurd (none-signed s f)
 spelt-negative most t (some (suc k)) s e f =
     let x = digits-up-to most t (suc k) e in
-    let g : behind (suc k) ≡ s = cc in rw (sym g) (record { text = ap (λ l. minus ∷ l) (x .0); proper = omega arith; within = x .1; })
+    let g : behind (suc k) ≡ s = cc in rw (sym g) (record { text = ap (λ l. minus ∷ l) (x .0); proper = omega arith; within = x .1 })
 
 -- a text that is a signed number is the text of that signed number, which is not behind by 0
 pub digits-of-signed : (most : ℕ) (t : List ℕ) (s : Signed) → signedUpTo most t ≡ some s → Spelt most t s

@@ -1,11 +1,13 @@
 -- Decimal numbers as text (the paper, 'Plans': 'Numbers are decimal, without leading zero or plus'): the text of a number and the number of a text.
 -- A text is the list of its bytes. The largest number of the device is a parameter.
 -- Assumes nothing.
-use Prim.Native.Nat.{ℕ, zero, suc, _+_, _-_, _*_, _/_, _%_}
+use Prim.Native.Nat.{ℕ, zero, suc, _+_, _-_, _*_, _/_, _%_, _≤_, _<_}
 use mathlib.Core.Bool.{cond}
 use mathlib.Core.List.{List, [], _∷_, _++_}
 use mathlib.Core.Option.{Option, none, some}
+use mathlib.Core.Logic.{_≢_}
 use lib.Dec.{leb, ltb}
+use lib.ListN.{length, getD}
 
 -- ---- the text of a number
 
@@ -21,6 +23,18 @@ spell (suc k) n = let more = spell k (n / 10) ++ (glyph (n % 10) ∷ []) in cond
 -- the text of n: n divisions are always enough, since each makes the number smaller
 unfoldable pub digitsOf : ℕ → List ℕ
 digitsOf n = spell n n
+
+-- ---- what a number's text looks like
+
+-- a byte from `0` to `9`
+abbrev pub Digit : ℕ → Type 0
+Digit b = (48 ≤ b) × (b ≤ 57)
+
+-- 'decimal, without leading zero or plus': one digit or more and nothing else, and `0` first only where it is alone
+pub record Decimal (t : List ℕ) : Type 0 where
+  pub bytes : 1 ≤ length t
+  pub digits : (j : ℕ) → j < length t → Digit (getD t j 0)
+  pub front : 1 < length t → getD t 0 0 ≢ 48
 
 -- ---- the number of a text
 

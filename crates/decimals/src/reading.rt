@@ -2,9 +2,9 @@
 use crate::Read;
 use crate::ReadSigned;
 ghost use mathlib.Core.Path.{_≡_};
+ghost use mathlib.Core.Option.{some};
 ghost use Rattle.listing.specs.Limits.{largest64};
 ghost use Rattle.decimals.specs.Decimal.{digitIn, andDigit, upTo, numberUpTo};
-ghost use mathlib.Core.Option.{some};
 ghost use Rattle.decimals.specs.Signed.{negative, signedUpTo};
 ghost use Rattle.decimals.specs.Answers.{readIs, signedIs};
 
@@ -68,6 +68,16 @@ pub fn read_number(t: &[u8]) -> Read
     found
 }
 
+// Behind by m, where m is not 0.
+fn behind(m: u64) -> ReadSigned
+    ensures { λ r. ⌜ signedIs r ≡ negative (some m) ⌝ }
+{
+    if m < 1 {
+        return ReadSigned::Bad;
+    }
+    ReadSigned::Behind(m)
+}
+
 // The signed number that a text is: `-` only before a magnitude that is not 0.
 pub fn read_signed(t: &[u8]) -> ReadSigned
     ensures { λ r. ⌜ signedIs r ≡ signedUpTo largest64 (now (t .entry)) ⌝ }
@@ -86,14 +96,4 @@ pub fn read_signed(t: &[u8]) -> ReadSigned
             Read::Bad => ReadSigned::Bad,
         }
     }
-}
-
-// Behind by m, where m is not 0.
-fn behind(m: u64) -> ReadSigned
-    ensures { λ r. ⌜ signedIs r ≡ negative (some m) ⌝ }
-{
-    if m < 1 {
-        return ReadSigned::Bad;
-    }
-    ReadSigned::Behind(m)
 }

@@ -20,20 +20,20 @@ pub fn places(n: u64) -> usize
     k
 }
 
-// The digits of n, k of them, at the start of an array of zeros; they are set from the last to the first.
+// The digits of n, k of them, at the front of an array of zeros. They are set from the last to the first: place 1 is the last.
 fn spelt(n: u64, k: usize) -> [u8; 20]
     requires { ⌜ k ≡ length (digitsOf n) ⌝ }
     ensures { λ r. ⌜ r ≡ digitsOf n ++ replicate (20 - k) 0 ⌝ }
 {
     let mut bytes = [0u8; 20];
-    let mut at = k - 1;
+    let mut place: usize = 1;
     let mut rest = n;
     while 10 <= rest {
-        bytes[at] = 48 + (rest % 10) as u8;
-        at -= 1;
+        bytes[k - place] = 48 + (rest % 10) as u8;
+        place += 1;
         rest /= 10;
     }
-    bytes[at] = 48 + rest as u8;
+    bytes[k - place] = 48 + rest as u8;
     bytes
 }
 

@@ -57,8 +57,8 @@ loop-again c =
     let t = l .before .before .before .before .before .args .t .now in (
       search needs,
       l .loop .inv .1
-      ∙ read-on largest64 t (l .loop .at) (readIs (l .loop .found)) (c .before .before .loop-test .taken)
-      ∙ ap (λ o. upTo largest64 (onward o (drop (l .loop .at + 1) t))) (sym (c .and-byte .ensures)),
+          ∙ read-on largest64 t (l .loop .at) (readIs (l .loop .found)) (c .before .before .loop-test .taken)
+          ∙ ap (λ o. upTo largest64 (onward o (drop (l .loop .at + 1) t))) (sym (c .and-byte .ensures)),
       ap (upTo largest64) (c .and-byte .ensures) ∙ up-to-twice largest64 _ ∙ sym (c .and-byte .ensures),
     )
 

@@ -1,7 +1,6 @@
 -- `decimals::writing::places` counts the digits: each division takes one, and the digits counted and those of the rest are one more than all.
-use mathlib.Core.Path.{_≡_, sym, ap, _∙_}
-use Prim.Native.Nat.{_+_, _≤_}
-use native.Mathlib.Nat.{div-lt-self}
+use mathlib.Core.Path.{_≡_}
+use Prim.Native.Nat.{_+_}
 use native.Mathlib.Omega.{arith}
 use lib.ListN.{length}
 use borrow.Author.Needs.{needs}

@@ -1,41 +1,38 @@
--- `decimals::writing::spelt` sets the digits of n from the last to the first: the digits of the rest, and the bytes after `at`, are the digits of n and zeros.
-use mathlib.Core.Path.{_≡_, sym, ap, _∙_}
+-- `decimals::writing::spelt` sets the digits of n from the last to the first. The digits of the rest have still to be set: put over the front of the array
+-- they always make the digits of n and then zeros.
+use mathlib.Core.Path.{_≡_, _∙_}
 use mathlib.Core.List.{_++_}
-use Prim.Native.Nat.{ℕ, _+_, _-_, _/_, _%_, _<_}
-use native.Mathlib.Nat.{mod-lt}
+use Prim.Native.Nat.{ℕ, _+_, _-_, _%_, _≤_}
 use native.Mathlib.Omega.{arith}
-use lib.ListN.{length, drop, set, replicate, length-set, length-replicate}
+use lib.ListN.{length, replicate, length-set, length-replicate}
 use borrow.Author.Needs.{needs}
 use Rattle.decimals.specs.Decimal.{glyph, digitsOf}
 use Rattle.decimals.proofs.Digits.{fewer-tens}
-use Rattle.decimals.proofs.Lengths.{length-one, length-more, length-some, digits-64}
-use Rattle.decimals.proofs.Texts.{drop-zeros, digit-set, first-set}
+use Rattle.decimals.proofs.Lengths.{length-more, length-some, digits-64}
+use Rattle.decimals.proofs.Texts.{overFront, digit-set, first-set, over-zeros}
 use Rattle.decimals.proofs.writing.spelt.Statement.{statement}
 use Rattle.decimals.proofs.writing.spelt.Tie as tie
 
--- the rest has the digits up to `at`; with the bytes after `at` they are the digits of n and zeros
+-- the places from `place` on have the digits of the rest, which are still to be set
 abbrev Inv-loop : tie.InvT-loop
-Inv-loop n k bytes₀ at₀ rest₀ bytes at rest =
-    (at < 20)
-    × (at + 1 ≡ length (digitsOf rest))
+Inv-loop n k bytes₀ place₀ rest₀ bytes place rest =
+    (1 ≤ place)
+    × (k ≤ 20)
+    × (place + length (digitsOf rest) ≡ k + 1)
     × (length bytes ≡ 20)
-    × (digitsOf rest ++ drop (at + 1) bytes ≡ digitsOf n ++ replicate (20 - k) 0)
+    × (overFront rest bytes ≡ digitsOf n ++ replicate (20 - k) 0)
 
 abbrev μ-loop : tie.MeasureT-loop
-μ-loop n k bytes₀ at₀ rest₀ bytes at rest = rest
-
-sub-at : tie.Need-sub-at Inv-loop μ-loop
-sub-at c = omega (arith, length-some (c .args .n))
+μ-loop n k bytes₀ place₀ rest₀ bytes place rest = rest
 
 loop-holds : tie.Need-loop-holds Inv-loop μ-loop
-loop-holds c =
-    let k = c .args .k in
-    let back : k - 1 + 1 ≡ k = omega (arith, length-some (c .args .n)) in (
-      omega (arith, digits-64 (c .args .n) (search needs)),
-      back ∙ c .pre,
-      length-replicate {A = ℕ} 20 0,
-      ap (λ s. digitsOf (c .args .n) ++ s) (ap (λ j. drop {A = ℕ} j (replicate 20 0)) back ∙ drop-zeros k 20),
-    )
+loop-holds c = (
+  search needs,
+  omega (arith, digits-64 (c .args .n) (search needs)),
+  omega arith,
+  length-replicate {A = ℕ} 20 0,
+  over-zeros (c .args .n) (c .args .k) (c .pre),
+)
 
 cast-bytes : tie.Need-cast-bytes Inv-loop μ-loop
 cast-bytes c = search needs
@@ -43,13 +40,14 @@ cast-bytes c = search needs
 add-bytes : tie.Need-add-bytes Inv-loop μ-loop
 add-bytes c = search needs
 
-array-write-bytes : tie.Need-array-write-bytes Inv-loop μ-loop
-array-write-bytes c = search needs
+sub-bytes : tie.Need-sub-bytes Inv-loop μ-loop
+sub-bytes c = omega (arith, length-some (c .before .loop .rest))
 
-sub-at-2 : tie.Need-sub-at-2 Inv-loop μ-loop
-sub-at-2 c =
-    let r = c .before .loop .rest in
-    omega (arith, length-more r (c .loop-test .taken), length-some (r / 10))
+array-write-bytes : tie.Need-array-write-bytes Inv-loop μ-loop
+array-write-bytes c = omega (arith, length-some (c .before .loop .rest))
+
+add-place : tie.Need-add-place Inv-loop μ-loop
+add-place c = search needs
 
 loop-less : tie.Need-loop-less Inv-loop μ-loop
 loop-less c = fewer-tens _ (c .loop-test .taken)
@@ -57,15 +55,13 @@ loop-less c = fewer-tens _ (c .loop-test .taken)
 loop-again : tie.Need-loop-again Inv-loop μ-loop
 loop-again c =
     let l = c .before .loop in
-    let r = l .rest in
-    let g = glyph (r % 10) in
-    let back : l .at - 1 + 1 ≡ l .at = omega (arith, length-more r (c .loop-test .taken), length-some (r / 10)) in (
+    let k = c .before .before .args .k in
+    let some : 1 ≤ length (digitsOf (l .rest)) = length-some (l .rest) in (
       search needs,
-      omega (arith, length-more r (c .loop-test .taken)),
-      length-set (l .bytes) (l .at) g ∙ l .inv .2,
-      ap (λ j. digitsOf (r / 10) ++ drop j (set (l .bytes) (l .at) g)) back
-      ∙ digit-set r (l .bytes) (l .at) (c .loop-test .taken) (omega arith)
-      ∙ l .inv .3,
+      l .inv .1,
+      omega (arith, length-more (l .rest) (c .loop-test .taken)),
+      length-set (l .bytes) (k - l .place) (glyph (l .rest % 10)) ∙ l .inv .3,
+      digit-set (l .rest) (l .bytes) (k - l .place) (c .loop-test .taken) (omega arith) (omega arith) ∙ l .inv .4,
     )
 
 cast-bytes-2 : tie.Need-cast-bytes-2 Inv-loop μ-loop
@@ -74,13 +70,18 @@ cast-bytes-2 c = search needs
 add-bytes-2 : tie.Need-add-bytes-2 Inv-loop μ-loop
 add-bytes-2 c = search needs
 
+sub-bytes-2 : tie.Need-sub-bytes-2 Inv-loop μ-loop
+sub-bytes-2 c = omega (arith, length-some (c .before .loop .rest))
+
 array-write-bytes-2 : tie.Need-array-write-bytes-2 Inv-loop μ-loop
-array-write-bytes-2 c = omega (arith, length-one (c .before .loop .rest) (c .loop-test .left))
+array-write-bytes-2 c = omega (arith, length-some (c .before .loop .rest))
 
 returns : tie.Need-returns Inv-loop μ-loop
 returns c =
     let l = c .before .loop in
-    first-set (l .rest) (l .bytes) (l .at) (c .loop-test .left) (omega (arith, length-one (l .rest) (c .loop-test .left))) (omega arith) ∙ l .inv .3
+    let k = c .before .before .args .k in
+    let some : 1 ≤ length (digitsOf (l .rest)) = length-some (l .rest) in
+    first-set (l .rest) (l .bytes) (k - l .place) (c .loop-test .left) (omega arith) (omega arith) ∙ l .inv .4
 
 pub spelt-spec : {M : Type 1} → statement M
 spelt-spec =
@@ -88,15 +89,16 @@ spelt-spec =
     (tie.spec
     Inv-loop
     μ-loop
-    sub-at
     loop-holds
     cast-bytes
     add-bytes
+    sub-bytes
     array-write-bytes
-    sub-at-2
+    add-place
     loop-less
     loop-again
     cast-bytes-2
     add-bytes-2
+    sub-bytes-2
     array-write-bytes-2
     returns)
