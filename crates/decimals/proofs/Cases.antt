@@ -49,6 +49,7 @@ numbers =
     ∷ record { text = replicate 30 49; is = none }
     ∷ []
 
+-- each of these is what stands beside it
 pub numbers-hold : Hold (numberUpTo largest64) numbers
 unfolding digitIn onward numberIn upTo
 numbers-hold = refl
@@ -70,6 +71,7 @@ signed =
     ∷ record { text = minus ∷ allButOne ++ (54 ∷ []); is = none }
     ∷ []
 
+-- and each of these
 pub signed-hold : Hold (signedUpTo largest64) signed
 unfolding digitIn onward numberIn upTo signedUpTo
 signed-hold = refl

@@ -89,10 +89,12 @@ number-append (b ∷ s) t v e = onward-append (digitIn b) s t ∙ ap (λ o. onwa
 
 -- ---- the number of a number's text is the number
 
+-- of one digit
 number-one : (n : ℕ) → n < 10 → numberIn (digitsOf n) ≡ some n
 unfolding numberIn onward
 number-one n h = ap numberIn (digits-one n h) ∙ digit-glyph n h
 
+-- of more, if of its tens
 number-more : (n : ℕ) → 10 ≤ n → numberIn (digitsOf (n / 10)) ≡ some (n / 10) → numberIn (digitsOf n) ≡ some n
 unfolding onward
 number-more n h e =
@@ -104,6 +106,7 @@ number-more n h e =
     ∙ and-digit (n / 10) (n % 10) (omega arith)
     ∙ ap some whole
 
+-- the number of the text of a number is that number
 pub number-of-digits : (n : ℕ) → numberIn (digitsOf n) ≡ some n
 number-of-digits = by-tens (λ n. numberIn (digitsOf n) ≡ some n) number-one number-more
 
@@ -129,7 +132,7 @@ digits-onward (b ∷ t) s v n e f =
     (sym (ap (λ o. onward o t) (x .4)) ∙ f))
     (λ z. absurd (none-some n (sym (ap (λ o. onward o t) z ∙ onward-none t) ∙ f)))
 
--- a text that begins with a digit
+-- a text that is a number is the text of that number
 pub digits-of-number : (t : List ℕ) (n : ℕ) → numberIn t ≡ some n → t ≡ digitsOf n
 unfolding numberIn
 digits-of-number [] n e = absurd (none-some n e)

@@ -67,5 +67,6 @@ pub digits-largest : digitsOf largest64 ≡
 unfolding numberIn onward digitIn
 digits-largest = sym (digits-of-number _ largest64 refl)
 
+-- so 20 digits are attained
 pub largest-20 : length (digitsOf largest64) ≡ 20
 largest-20 = ap length digits-largest

@@ -7,8 +7,8 @@ use Prim.Native.Nat.{ℕ, zero, suc, _+_, _-_, _*_, _≤_, _<_}
 use native.Mathlib.Omega.{arith}
 use lib.ListN.{length, getD}
 use Rattle.listing.proofs.Numbers.{either}
-use Rattle.decimals.specs.Decimal.{Digit, Decimal, digitIn, andDigit, onward, numberIn}
-use Rattle.decimals.proofs.Inverse.{none-some, digit-byte, digit-cases, and-parts, and-none, and-digit, onward-none}
+use Rattle.decimals.specs.Decimal.{Digit, Decimal, digitsOf, digitIn, andDigit, onward, numberIn}
+use Rattle.decimals.proofs.Inverse.{none-some, digit-byte, digit-cases, and-parts, and-none, and-digit, onward-none, number-of-digits}
 
 -- ---- a number's text has the shape
 
@@ -35,6 +35,7 @@ unfolding onward digitIn
 zero-first b c t n e z =
     none-some n (sym (ap (λ y. onward (andDigit (digitIn y) (digitIn c)) t) z ∙ onward-none t) ∙ e)
 
+-- a text that is a number is decimal, without leading zero
 pub number-decimal : (t : List ℕ) (n : ℕ) → numberIn t ≡ some n → Decimal t
 unfolding numberIn
 number-decimal [] n e = absurd (none-some n e)
@@ -49,6 +50,10 @@ number-decimal (b ∷ c ∷ t) n e = record { bytes = omega arith; digits = all;
     all zero h = first-digit b (c ∷ t) n e
     all (suc j) h = onward-digits (c ∷ t) (digitIn b) n e j (omega arith)
 
+-- so the text of a number is digits only
+pub digits-decimal : (n : ℕ) → Decimal (digitsOf n)
+digits-decimal n = number-decimal (digitsOf n) n (number-of-digits n)
+
 -- ---- every text of the shape is a number's
 
 -- a number from 1 on goes on over digits to a number
@@ -60,6 +65,7 @@ onward-number (b ∷ t) v h d =
     let r = onward-number t (v * 10 + (b - 48)) (omega arith) (λ j l. d (suc j) (omega arith)) in
     (r .0, ap (λ o. onward o t) (and-parts {o = some v} refl (digit-byte b (x .0) (omega arith)) ∙ and-digit v (b - 48) h) ∙ r .1)
 
+-- a text that is decimal, without leading zero, is a number
 pub decimal-number : (t : List ℕ) → Decimal t → (n : ℕ) × (numberIn t ≡ some n)
 unfolding numberIn onward
 decimal-number [] D = absurd (omega (arith, D .bytes))

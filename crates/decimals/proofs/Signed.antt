@@ -90,10 +90,14 @@ pub record Spelt (most : ℕ) (t : List ℕ) (s : Signed) : Type 0 where
 none-signed : (s : Signed) → none ≡ some s → ⊥
 none-signed s e = let z : _≡_ {A = ℕ} 0 1 = cc in omega arith
 
+-- what was read without `-`
 spelt-plain : (most : ℕ) (t : List ℕ) (o : Option ℕ) (s : Signed) → numberUpTo most t ≡ o → plain o ≡ some s → Spelt most t s
 spelt-plain most t none s e f = absurd (none-signed s f)
-spelt-plain most t (some n) s e f = let x = digits-up-to most t n e in let g : ahead n ≡ s = cc in rw (sym g) (record { text = x .0; proper = tt; within = x .1 })
+spelt-plain most t (some n) s e f =
+    let x = digits-up-to most t n e in
+    let g : ahead n ≡ s = cc in rw (sym g) (record { text = x .0; proper = tt; within = x .1 })
 
+-- what was read with it
 spelt-negative : (most : ℕ) (t : List ℕ) (o : Option ℕ) (s : Signed) → numberUpTo most t ≡ o → negative o ≡ some s → Spelt most (minus ∷ t) s
 spelt-negative most t none s e f = absurd (none-signed s f)
 spelt-negative most t (some zero) s e f = absurd (none-signed s f)

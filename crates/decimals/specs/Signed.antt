@@ -31,11 +31,12 @@ abbrev pub signedDigits : Signed → List ℕ
 signedDigits (ahead n) = digitsOf n
 signedDigits (behind n) = minus ∷ digitsOf n
 
--- what a magnitude says without `-` before it, and with it: `-` only before a non-zero magnitude
+-- what a magnitude says without `-` before it
 abbrev pub plain : Option ℕ → Option Signed
 plain none = none
 plain (some n) = some (ahead n)
 
+-- what it says with `-` before it: '`-` only before a non-zero run'
 abbrev pub negative : Option ℕ → Option Signed
 negative none = none
 negative (some zero) = none

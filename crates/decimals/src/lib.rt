@@ -15,7 +15,7 @@ pub enum ReadSigned {
     Bad,
 }
 
-// A number's text: the first len bytes.
+// A number's text: the first len bytes. The bytes after them are 0.
 pub struct Text {
     pub bytes: [u8; 20],
     pub len: usize,

@@ -1,8 +1,9 @@
 -- `decimals::reading::and_byte` gives what was found and one digit more: none where nothing was found, or the byte is no digit.
-use mathlib.Core.Path.{refl, sym, ap, _∙_}
+use mathlib.Core.Path.{_≡_, refl, sym, ap, _∙_}
+use mathlib.Core.Option.{none}
 use borrow.Author.Needs.{needs}
 use Rattle.listing.specs.Limits.{largest64}
-use Rattle.decimals.specs.Decimal.{upTo}
+use Rattle.decimals.specs.Decimal.{digitIn, upTo}
 use Rattle.decimals.specs.Answers.{readIs}
 use Rattle.decimals.proofs.Inverse.{and-parts, and-none}
 use Rattle.decimals.proofs.Limits.{none-up-to}
@@ -38,7 +39,9 @@ returns c =
 returns-2 : tie.Need-returns-2
 returns-2 c =
     let o = readIs (c .before .before .before .before .before .before .args .found) in
-    sym (ap (upTo largest64) (and-parts {o = o} refl (sym (c .before .before .digit-in .ensures) ∙ ap readIs (c .enum-told .given .1)) ∙ and-none o) ∙ none-up-to largest64)
+    let no : digitIn (c .before .before .before .before .before .before .args .b) ≡ none =
+    sym (c .before .before .digit-in .ensures) ∙ ap readIs (c .enum-told .given .1) in
+    sym (ap (upTo largest64) (and-parts {o = o} refl no ∙ and-none o) ∙ none-up-to largest64)
 
 returns-3 : tie.Need-returns-3
 returns-3 c = sym (ap (upTo largest64) (and-parts (ap readIs (c .enum-told2 .given .1)) refl) ∙ none-up-to largest64)

@@ -45,29 +45,23 @@ enum-told-2 c = search needs
 
 returns-2 : tie.Need-returns-2
 returns-2 c =
-    let n = c .before .before .before .before in
-    let i = n .before .before in
-    c .behind .ensures
-    ∙ sym
-    (read-behind largest64 _ _ (i .before .before .if1 .left) (i .if2 .taken) (sym (ap readIs (c .before .before .m .given .1)) ∙ n .read-number .ensures))
+    let n = c .before .before .before .before .read-number in
+    c .behind .ensures ∙ sym (read-behind largest64 _ _ (search needs) (search needs) (sym (ap readIs (c .before .before .m .given .1)) ∙ n .ensures))
 
 returns-3 : tie.Need-returns-3
 returns-3 c =
-    let n = c .before .before in
-    let i = n .before .before in
-    sym (read-behind largest64 _ _ (i .before .before .if1 .left) (i .if2 .taken) (sym (ap readIs (c .enum-told .given .1)) ∙ n .read-number .ensures))
+    let n = c .before .before .read-number in
+    sym (read-behind largest64 _ _ (search needs) (search needs) (sym (ap readIs (c .enum-told .given .1)) ∙ n .ensures))
 
 returns-4 : tie.Need-returns-4
 returns-4 c =
-    let n = c .before .before .before in
-    let i = n .before in
-    sym (read-ahead largest64 _ _ (i .before .before .if1 .left) (i .if2 .left) (sym (ap readIs (c .before .m2 .given .1)) ∙ n .read-number2 .ensures))
+    let n = c .before .before .before .read-number2 in
+    sym (read-ahead largest64 _ _ (search needs) (search needs) (sym (ap readIs (c .before .m2 .given .1)) ∙ n .ensures))
 
 returns-5 : tie.Need-returns-5
 returns-5 c =
-    let n = c .before .before in
-    let i = n .before in
-    sym (read-ahead largest64 _ _ (i .before .before .if1 .left) (i .if2 .left) (sym (ap readIs (c .enum-told2 .given .1)) ∙ n .read-number2 .ensures))
+    let n = c .before .before .read-number2 in
+    sym (read-ahead largest64 _ _ (search needs) (search needs) (sym (ap readIs (c .enum-told2 .given .1)) ∙ n .ensures))
 
 pub read-signed-spec : {M : Type 1} → statement M
 read-signed-spec =

@@ -2,11 +2,11 @@
 -- they always make the digits of n and then zeros.
 use mathlib.Core.Path.{_≡_, _∙_}
 use mathlib.Core.List.{_++_}
-use Prim.Native.Nat.{ℕ, _+_, _-_, _%_, _≤_}
+use Prim.Native.Nat.{ℕ, _+_, _-_, _≤_}
 use native.Mathlib.Omega.{arith}
-use lib.ListN.{length, replicate, length-set, length-replicate}
+use lib.ListN.{length, replicate, length-replicate}
 use borrow.Author.Needs.{needs}
-use Rattle.decimals.specs.Decimal.{glyph, digitsOf}
+use Rattle.decimals.specs.Decimal.{digitsOf}
 use Rattle.decimals.proofs.Digits.{fewer-tens}
 use Rattle.decimals.proofs.Lengths.{length-more, length-some, digits-64}
 use Rattle.decimals.proofs.Texts.{overFront, digit-set, first-set, over-zeros}
@@ -60,7 +60,7 @@ loop-again c =
       search needs,
       l .inv .1,
       omega (arith, length-more (l .rest) (c .loop-test .taken)),
-      length-set (l .bytes) (k - l .place) (glyph (l .rest % 10)) ∙ l .inv .3,
+      search needs,
       digit-set (l .rest) (l .bytes) (k - l .place) (c .loop-test .taken) (omega arith) (omega arith) ∙ l .inv .4,
     )
 
