@@ -1,0 +1,9 @@
+pub mod Digits
+pub mod Inverse
+pub mod Lengths
+pub mod Limits
+pub mod Signed
+pub mod Texts
+pub mod Shape
+pub mod Only
+pub mod Cases
