@@ -13,9 +13,9 @@ use Rattle.listing.proofs.Numbers.{either, below?}
 use Rattle.decimals.specs.Decimal.{glyph, digitsOf, digitIn, andDigit, onward, numberIn}
 use Rattle.decimals.proofs.Digits.{digits-one, digits-more, by-tens}
 
--- no number is none
-pub none-some : (n : ℕ) → none ≡ some n → ⊥
-none-some n e = let z : _≡_ {A = ℕ} 0 1 = cc in omega arith
+-- something is not none
+pub none-some : {A : Type 0} (a : A) → none ≡ some a → ⊥
+none-some a e = let z : _≡_ {A = ℕ} 0 1 = cc in omega arith
 
 -- ---- digits
 

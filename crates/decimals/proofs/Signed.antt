@@ -86,21 +86,17 @@ pub record Spelt (most : ℕ) (t : List ℕ) (s : Signed) : Type 0 where
   pub proper : Proper s
   pub within : magnitude s ≤ most
 
--- no signed number is none
-none-signed : (s : Signed) → none ≡ some s → ⊥
-none-signed s e = let z : _≡_ {A = ℕ} 0 1 = cc in omega arith
-
 -- what was read without `-`
 spelt-plain : (most : ℕ) (t : List ℕ) (o : Option ℕ) (s : Signed) → numberUpTo most t ≡ o → plain o ≡ some s → Spelt most t s
-spelt-plain most t none s e f = absurd (none-signed s f)
+spelt-plain most t none s e f = absurd (none-some s f)
 spelt-plain most t (some n) s e f =
     let x = digits-up-to most t n e in
     let g : ahead n ≡ s = cc in rw (sym g) (record { text = x .0; proper = tt; within = x .1 })
 
 -- what was read with it
 spelt-negative : (most : ℕ) (t : List ℕ) (o : Option ℕ) (s : Signed) → numberUpTo most t ≡ o → negative o ≡ some s → Spelt most (minus ∷ t) s
-spelt-negative most t none s e f = absurd (none-signed s f)
-spelt-negative most t (some zero) s e f = absurd (none-signed s f)
+spelt-negative most t none s e f = absurd (none-some s f)
+spelt-negative most t (some zero) s e f = absurd (none-some s f)
 spelt-negative most t (some (suc k)) s e f =
     let x = digits-up-to most t (suc k) e in
     let g : behind (suc k) ≡ s = cc in rw (sym g) (record { text = ap (λ l. minus ∷ l) (x .0); proper = omega arith; within = x .1 })
@@ -108,7 +104,7 @@ spelt-negative most t (some (suc k)) s e f =
 -- a text that is a signed number is the text of that signed number, which is not behind by 0
 pub digits-of-signed : (most : ℕ) (t : List ℕ) (s : Signed) → signedUpTo most t ≡ some s → Spelt most t s
 unfolding signedUpTo
-digits-of-signed most [] s e = absurd (none-signed s e)
+digits-of-signed most [] s e = absurd (none-some s e)
 digits-of-signed most (b ∷ t) s e =
     either (same? b minus)
     (λ m. rw m (spelt-negative most t (numberUpTo most t) s refl (sym (signed-minus most (b ∷ t) (omega arith) m) ∙ e)))
