@@ -13,7 +13,7 @@ use Rattle.listing.proofs.Numbers.{either, below?}
 use Rattle.decimals.specs.Decimal.{glyph, digitsOf, digitIn, andDigit, onward, numberIn}
 use Rattle.decimals.proofs.Digits.{digits-one, digits-more, by-tens}
 
--- what is something is not none
+-- something is not none
 pub none-some : {A : Type 0} (a : A) → none ≡ some a → ⊥
 none-some a e = let z : _≡_ {A = ℕ} 0 1 = cc in omega arith
 
@@ -34,12 +34,22 @@ unfolding digitIn
 no-digit b (inl low) = rw (lt-ltb b 48 low)
 no-digit b (inr high) = rw (le-ltb b 48 (omega arith), le-ltb b 58 high)
 
+-- b is the byte of a digit
+pub record OfDigit (b : ℕ) : Type 0 where
+  pub digit : ℕ
+  pub small : digit < 10
+  pub byte : b ≡ glyph digit
+
+-- such a byte is that digit
+pub of-digit : {b : ℕ} (x : OfDigit b) → digitIn b ≡ some (x .digit)
+of-digit x = ap digitIn (x .byte) ∙ digit-glyph (x .digit) (x .small)
+
 -- a byte is the byte of a digit, or no digit
-pub digit-cases : (b : ℕ) → ((d : ℕ) × (d < 10) × (b ≡ glyph d)) ⊎ (digitIn b ≡ none)
+pub digit-cases : (b : ℕ) → OfDigit b ⊎ (digitIn b ≡ none)
 digit-cases b =
     either (below? b 48)
     (λ low. inr (no-digit b (inl low)))
-    (λ l. either (below? b 58) (λ h. inl (b - 48, omega arith, omega arith)) (λ high. inr (no-digit b (inr high))))
+    (λ l. either (below? b 58) (λ h. inl (record { digit = b - 48; small = omega arith; byte = omega arith })) (λ high. inr (no-digit b (inr high))))
 
 -- ---- one digit more
 
@@ -58,13 +68,18 @@ and-none none = refl
 and-none (some zero) = refl
 and-none (some (suc u)) = refl
 
--- a byte after v makes a number just where v is not 0 and the byte is a digit
-pub byte-more : (v b : ℕ) →
-    ((d : ℕ) × (1 ≤ v) × (d < 10) × (b ≡ glyph d) × (andDigit (some v) (digitIn b) ≡ some (v * 10 + d))) ⊎ (andDigit (some v) (digitIn b) ≡ none)
+-- the byte b after v makes a number: v is not 0, and b is the byte of a digit
+pub record More (v b : ℕ) : Type 0 where
+  pub positive : 1 ≤ v
+  pub last : OfDigit b
+  pub gives : andDigit (some v) (digitIn b) ≡ some (v * 10 + last .digit)
+
+-- a byte after v makes a number, or none
+pub byte-more : (v b : ℕ) → More v b ⊎ (andDigit (some v) (digitIn b) ≡ none)
 byte-more zero b = inr refl
 byte-more (suc u) b =
     either (digit-cases b)
-    (λ x. inl (x .0, omega arith, x .1, x .2, ap (λ y. andDigit (some (suc u)) (digitIn y)) (x .2) ∙ ap (andDigit (some (suc u))) (digit-glyph (x .0) (x .1))))
+    (λ x. inl (record { positive = omega arith; last = x; gives = ap (andDigit (some (suc u))) (of-digit x) }))
     (λ e. inr (ap (andDigit (some (suc u))) e))
 
 -- ---- many
@@ -127,9 +142,9 @@ digits-onward (b ∷ t) s v n e f =
     either (byte-more v b)
     (λ x.
     sym (append-snoc s b t)
-    ∙ digits-onward t (s ++ (b ∷ [])) (v * 10 + x .0) n
-    (ap (λ l. l ++ (b ∷ [])) e ∙ ap (λ y. digitsOf v ++ (y ∷ [])) (x .3) ∙ digits-snoc v (x .0) (x .1) (x .2))
-    (sym (ap (λ o. onward o t) (x .4)) ∙ f))
+    ∙ digits-onward t (s ++ (b ∷ [])) (v * 10 + x .last .digit) n
+    (ap (λ l. l ++ (b ∷ [])) e ∙ ap (λ y. digitsOf v ++ (y ∷ [])) (x .last .byte) ∙ digits-snoc v (x .last .digit) (x .positive) (x .last .small))
+    (sym (ap (λ o. onward o t) (x .gives)) ∙ f))
     (λ z. absurd (none-some n (sym (ap (λ o. onward o t) z ∙ onward-none t) ∙ f)))
 
 -- a text that is a number is the text of that number
@@ -139,8 +154,8 @@ digits-of-number [] n e = absurd (none-some n e)
 digits-of-number (b ∷ t) n e =
     either (digit-cases b)
     (λ x.
-    digits-onward t (b ∷ []) (x .0) n (ap (λ y. y ∷ []) (x .2) ∙ sym (digits-one (x .0) (x .1)))
-    (sym (ap (λ o. onward o t) (ap digitIn (x .2) ∙ digit-glyph (x .0) (x .1))) ∙ e))
+    digits-onward t (b ∷ []) (x .digit) n (ap (λ y. y ∷ []) (x .byte) ∙ sym (digits-one (x .digit) (x .small)))
+    (sym (ap (λ o. onward o t) (of-digit x)) ∙ e))
     (λ z. absurd (none-some n (sym (ap (λ o. onward o t) z ∙ onward-none t) ∙ e)))
 
 -- two numbers of the same text are the same

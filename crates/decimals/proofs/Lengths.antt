@@ -38,7 +38,7 @@ digits-at-most (suc k) n h =
 pub digits-above : (k n : ℕ) → 10 ^ k ≤ n → k < length (digitsOf n)
 digits-above zero n h = length-some n
 digits-above (suc k) n h =
-    let some : 1 ≤ 10 ^ k = power k in
+    let one : 1 ≤ 10 ^ k = power k in
     let last : n % 10 < 10 = mod-lt n (omega arith) in
     let e : k < length (digitsOf (n / 10)) = digits-above k (n / 10) (omega (arith, div-add-mod' n 10)) in
     omega (arith, length-more n (omega arith))

@@ -11,7 +11,7 @@ use lib.Seq.{drop-cons}
 use borrow.Author.Tests.{le-leb, lt-leb}
 use Rattle.listing.proofs.Numbers.{either, below?}
 use Rattle.decimals.specs.Decimal.{digitsOf, digitIn, andDigit, onward, numberIn, upTo, numberUpTo}
-use Rattle.decimals.proofs.Inverse.{none-some, digit-glyph, digit-cases, and-digit, byte-more, onward-none, number-of-digits, digits-of-number}
+use Rattle.decimals.proofs.Inverse.{none-some, of-digit, digit-cases, and-digit, byte-more, onward-none, number-of-digits, digits-of-number}
 
 module _ (most : ℕ) where
   -- ---- the largest number
@@ -65,7 +65,7 @@ module _ (most : ℕ) where
   onward-above [] v h = above v h
   onward-above (b ∷ t) v h =
       either (byte-more v b)
-      (λ x. ap (λ o. upTo most (onward o t)) (x .4) ∙ onward-above t (v * 10 + x .0) (omega arith))
+      (λ x. ap (λ o. upTo most (onward o t)) (x .gives) ∙ onward-above t (v * 10 + x .last .digit) (omega arith))
       (λ z. ap (λ o. upTo most (onward o t)) z ∙ ap (upTo most) (onward-none t) ∙ none-up-to)
 
   -- so it may be judged at once
@@ -104,9 +104,7 @@ module _ (most : ℕ) where
 pub digit-within : (most b : ℕ) → 9 ≤ most → upTo most (digitIn b) ≡ digitIn b
 digit-within most b h =
     either (digit-cases b)
-    (λ x.
-    let e : digitIn b ≡ some (x .0) = ap digitIn (x .2) ∙ digit-glyph (x .0) (x .1) in
-    ap (upTo most) e ∙ within most (x .0) (omega (arith, x .1)) ∙ sym e)
+    (λ x. ap (upTo most) (of-digit x) ∙ within most (x .digit) (omega (arith, x .small)) ∙ sym (of-digit x))
     (λ z. ap (upTo most) z ∙ none-up-to most ∙ sym z)
 
 -- a text without bytes is no number

@@ -8,7 +8,11 @@ use native.Mathlib.Omega.{arith}
 use lib.ListN.{length, getD}
 use Rattle.listing.proofs.Numbers.{either}
 use Rattle.decimals.specs.Decimal.{Digit, Decimal, digitsOf, digitIn, andDigit, onward, numberIn}
-use Rattle.decimals.proofs.Inverse.{none-some, digit-byte, digit-cases, and-parts, and-none, and-digit, onward-none, number-of-digits}
+use Rattle.decimals.proofs.Inverse.{none-some, OfDigit, digit-byte, digit-cases, and-parts, and-none, and-digit, onward-none, number-of-digits}
+
+-- the byte of a digit is from `0` to `9`
+of-digit-digit : {b : ℕ} → OfDigit b → Digit b
+of-digit-digit x = (omega arith, omega arith)
 
 -- ---- a number's text has the shape
 
@@ -18,7 +22,7 @@ unfolding onward
 onward-digits [] o n e j h = absurd (omega arith)
 onward-digits (b ∷ t) o n e zero h =
     either (digit-cases b)
-    (λ x. (omega (arith, x .1, x .2), omega (arith, x .1, x .2)))
+    of-digit-digit
     (λ z. absurd (none-some n (sym (ap (λ p. onward (andDigit o p) t) z ∙ ap (λ p. onward p t) (and-none o) ∙ onward-none t) ∙ e)))
 onward-digits (b ∷ t) o n e (suc j) h = onward-digits t (andDigit o (digitIn b)) n e j (omega arith)
 
@@ -26,7 +30,7 @@ onward-digits (b ∷ t) o n e (suc j) h = onward-digits t (andDigit o (digitIn b
 first-digit : (b : ℕ) (t : List ℕ) (n : ℕ) → onward (digitIn b) t ≡ some n → Digit b
 first-digit b t n e =
     either (digit-cases b)
-    (λ x. (omega (arith, x .1, x .2), omega (arith, x .1, x .2)))
+    of-digit-digit
     (λ z. absurd (none-some n (sym (ap (λ p. onward p t) z ∙ onward-none t) ∙ e)))
 
 -- nothing follows a `0`

@@ -18,6 +18,13 @@ drop-zeros zero n = let e : n - 0 ≡ n = omega arith in rw e
 drop-zeros (suc k) zero = let e : 0 - suc k ≡ 0 = omega arith in rw e
 drop-zeros (suc k) (suc n) = let e : suc n - suc k ≡ n - k = omega arith in rw e (drop-zeros k n)
 
+-- from where an entry was set on: the entry and what stood after it
+drop-set : (bytes : List ℕ) (at g : ℕ) → at < length bytes → drop at (set bytes at g) ≡ g ∷ drop (suc at) bytes
+drop-set bytes at g l =
+    drop-cons (set bytes at g) at 0 (lt-length-set bytes at g l)
+    ∙ ap (λ x. x ∷ drop (suc at) (set bytes at g)) (getD-set-same bytes at g 0 l)
+    ∙ ap (λ s. g ∷ s) (drop-set-lt (suc at) bytes at g (omega arith))
+
 -- the digits of r put over the front of an array
 abbrev pub overFront : ℕ → List ℕ → List ℕ
 overFront r bytes = digitsOf r ++ drop (length (digitsOf r)) bytes
@@ -29,11 +36,7 @@ digit-set r bytes at h e l =
     let g = glyph (r % 10) in
     let tens : length (digitsOf (r / 10)) ≡ at = omega (arith, length-more r h) in
     let all : length (digitsOf r) ≡ suc at = omega arith in
-    let there : drop at (set bytes at g) ≡ g ∷ drop (suc at) bytes =
-    drop-cons (set bytes at g) at 0 (lt-length-set bytes at g l)
-    ∙ ap (λ x. x ∷ drop (suc at) (set bytes at g)) (getD-set-same bytes at g 0 l)
-    ∙ ap (λ s. g ∷ s) (drop-set-lt (suc at) bytes at g (omega arith)) in
-    rw (tens, there, all, digits-more r h) (sym (append-snoc (digitsOf (r / 10)) g (drop (suc at) bytes)))
+    rw (tens, drop-set bytes at g l, all, digits-more r h) (sym (append-snoc (digitsOf (r / 10)) g (drop (suc at) bytes)))
 
 -- a number below 10 is set at the front
 pub first-set : (r : ℕ) (bytes : List ℕ) (at : ℕ) → r < 10 → at + 1 ≡ length (digitsOf r) → at < length bytes → set bytes at (glyph r) ≡ overFront r bytes

@@ -1,12 +1,12 @@
--- What each answer of the readers says.
+-- What each answer of the calls says: a number or none, a signed number or none, a number's text.
 -- Assumes nothing.
 use Prim.Native.Nat.{ℕ, _-_}
 use mathlib.Core.Path.{_≡_}
 use mathlib.Core.List.{_++_}
+use mathlib.Core.Option.{Option, none, some}
 use lib.ListN.{length, replicate}
 use Rattle.decimals.specs.Decimal.{digitsOf}
 use Rattle.decimals.specs.declared.Text.{Text}
-use mathlib.Core.Option.{Option, none, some}
 use Rattle.decimals.specs.Signed.{Signed, ahead, behind}
 use Rattle.decimals.specs.declared.Read.{Read}
 use Rattle.decimals.specs.declared.Read.the-variants.{Number, Bad}
