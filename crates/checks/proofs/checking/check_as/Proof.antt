@@ -16,21 +16,6 @@ returns-2 : tie.Need-returns-2
 unfolding checkAs
 returns-2 c = sym (too-many _ _ _ (c .before .if1 .left) (c .if2 .taken))
 
-fault-requires : tie.Need-fault-requires
-fault-requires c κs = search needs
-
-enum-told : tie.Need-enum-told
-enum-told c = search needs
-
-enum-known-j : tie.Need-enum-known-j
-enum-known-j c = search needs
-
-enum-known-j-2 : tie.Need-enum-known-j-2
-enum-known-j-2 c = search needs
-
-enum-known-j-3 : tie.Need-enum-known-j-3
-enum-known-j-3 c = search needs
-
 -- the fault that the match found is the first
 returns-3 : tie.Need-returns-3
 returns-3 c =
@@ -58,11 +43,11 @@ check-as-spec =
     (tie.spec
     returns
     returns-2
-    fault-requires
-    enum-told
-    enum-known-j
-    enum-known-j-2
-    enum-known-j-3
+    (λ c κs. search needs)
+    (λ c. search needs)
+    (λ c. search needs)
+    (λ c. search needs)
+    (λ c. search needs)
     returns-3
     returns-4
     returns-5

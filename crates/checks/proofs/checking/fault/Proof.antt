@@ -31,38 +31,11 @@ abbrev μ-jacks : tie.MeasureT-jacks
 jacks-holds : tie.Need-jacks-holds Inv-loop μ-loop Inv-jacks μ-jacks
 jacks-holds c = let all : length (c .args .p .now) - 0 ≡ length (c .args .p .now) = omega arith in (search needs, refl, rw all refl)
 
-add-next : tie.Need-add-next Inv-loop μ-loop Inv-jacks μ-jacks
-add-next c = search needs
-
-cast-port : tie.Need-cast-port Inv-loop μ-loop Inv-jacks μ-jacks
-cast-port c = search needs
-
-shared-slice-read-port : tie.Need-shared-slice-read-port Inv-loop μ-loop Inv-jacks μ-jacks
-shared-slice-read-port c = search needs
-
 cast-port-2 : tie.Need-cast-port-2 Inv-loop μ-loop Inv-jacks μ-jacks
 cast-port-2 c = omega (arith, c .shared-slice-known .given (c .before .before .jacks .at))
 
 loop-holds : tie.Need-loop-holds Inv-loop μ-loop Inv-jacks μ-jacks
 loop-holds c = let l = c .before .before .before .before .jacks in let all : l .at - 0 ≡ l .at = omega arith in (search needs, refl, rw all refl)
-
-shared-slice-read-if3 : tie.Need-shared-slice-read-if3 Inv-loop μ-loop Inv-jacks μ-jacks
-shared-slice-read-if3 c = search needs
-
-shared-slice-read-if3-2 : tie.Need-shared-slice-read-if3-2 Inv-loop μ-loop Inv-jacks μ-jacks
-shared-slice-read-if3-2 c = search needs
-
-add-t18 : tie.Need-add-t18 Inv-loop μ-loop Inv-jacks μ-jacks
-add-t18 c = search needs
-
-cast-t19 : tie.Need-cast-t19 Inv-loop μ-loop Inv-jacks μ-jacks
-cast-t19 c = search needs
-
-add-k : tie.Need-add-k Inv-loop μ-loop Inv-jacks μ-jacks
-add-k c = search needs
-
-loop-less : tie.Need-loop-less Inv-loop μ-loop Inv-jacks μ-jacks
-loop-less c = search needs
 
 loop-again : tie.Need-loop-again Inv-loop μ-loop Inv-jacks μ-jacks
 loop-again c =
@@ -74,9 +47,6 @@ unrepeated : (c : tie.After-loop Inv-loop μ-loop Inv-jacks μ-jacks)
     → let j = c .before .before .before .before .before .before in earlier (j .before .args .p .now) (suc (j .jacks .at)) ≡ 0
 unrepeated c = c .before .loop .inv .2 ∙ seek-none _ _ _ _ (c .loop-test .left)
 
-jacks-less : tie.Need-jacks-less Inv-loop μ-loop Inv-jacks μ-jacks
-jacks-less c = search needs
-
 jacks-again : tie.Need-jacks-again Inv-loop μ-loop Inv-jacks μ-jacks
 jacks-again c =
     let l = c .before .before in
@@ -86,9 +56,6 @@ jacks-again c =
       l .before .loop .inv .1 ∙ j .jacks .inv .1,
       passed _ _ _ (j .jacks .inv .2) (search needs) (at-other _ _ _ _ (search needs) (search needs) (unrepeated l) (c .before .if4 .taken) (c .if5 .left)),
     )
-
-jacks-less-2 : tie.Need-jacks-less-2 Inv-loop μ-loop Inv-jacks μ-jacks
-jacks-less-2 c = search needs
 
 jacks-again-2 : tie.Need-jacks-again-2 Inv-loop μ-loop Inv-jacks μ-jacks
 jacks-again-2 c =
@@ -139,21 +106,21 @@ fault-spec =
     Inv-jacks
     μ-jacks
     jacks-holds
-    add-next
-    cast-port
-    shared-slice-read-port
+    (λ c. search needs)
+    (λ c. search needs)
+    (λ c. search needs)
     cast-port-2
     loop-holds
-    shared-slice-read-if3
-    shared-slice-read-if3-2
-    add-t18
-    cast-t19
-    add-k
-    loop-less
+    (λ c. search needs)
+    (λ c. search needs)
+    (λ c. search needs)
+    (λ c. search needs)
+    (λ c. search needs)
+    (λ c. search needs)
     loop-again
-    jacks-less
+    (λ c. search needs)
     jacks-again
-    jacks-less-2
+    (λ c. search needs)
     jacks-again-2
     returns
     returns-2

@@ -10,18 +10,6 @@ use Rattle.listing.proofs.Numbers.{less-one, less-two}
 use Rattle.levels.proofs.counts.block_size.Statement.{statement}
 use Rattle.levels.proofs.counts.block_size.Tie as tie
 
-sub-count-of : tie.Need-sub-count-of
-sub-count-of c = search needs
-
-count-of-requires : tie.Need-count-of-requires
-count-of-requires c κs = search needs
-
-sub-count-of-2 : tie.Need-sub-count-of-2
-sub-count-of-2 c = search needs
-
-count-of-requires-2 : tie.Need-count-of-requires-2
-count-of-requires-2 c κs = search needs
-
 add-result : tie.Need-add-result
 add-result c = let n = c .before .before .args .n in omega (arith, count-most (n - 1) (omega arith), count-most (n - 2) (omega arith))
 
@@ -33,4 +21,4 @@ returns c =
 pub block-size-spec : {M : Type 1} → statement M
 block-size-spec =
     tie.close
-    (tie.spec sub-count-of count-of-requires sub-count-of-2 count-of-requires-2 add-result returns)
+    (tie.spec (λ c. search needs) (λ c κs. search needs) (λ c. search needs) (λ c κs. search needs) add-result returns)

@@ -6,9 +6,6 @@ use Rattle.listing.proofs.Numbers.{either, lower-cases}
 use Rattle.levels.proofs.numbers.lowered.Statement.{statement}
 use Rattle.levels.proofs.numbers.lowered.Tie as tie
 
-sub-result : tie.Need-sub-result
-sub-result c = search needs
-
 returns : tie.Need-returns
 returns c = either (lower-cases (c .before .args .i) (c .before .args .v)) (λ d. omega arith) (λ d. omega arith)
 
@@ -16,4 +13,4 @@ returns-2 : tie.Need-returns-2
 returns-2 c = either (lower-cases (c .before .args .i) (c .before .args .v)) (λ d. omega arith) (λ d. omega arith)
 
 pub lowered-spec : {M : Type 1} → statement M
-lowered-spec = tie.close (tie.spec sub-result returns returns-2)
+lowered-spec = tie.close (tie.spec (λ c. search needs) returns returns-2)

@@ -6,9 +6,6 @@ use Rattle.listing.proofs.Numbers.{raise-high, raise-low}
 use Rattle.levels.proofs.numbers.raised.Statement.{statement}
 use Rattle.levels.proofs.numbers.raised.Tie as tie
 
-add-result : tie.Need-add-result
-add-result c = search needs
-
 returns : tie.Need-returns
 returns c = omega (arith, raise-high (c .before .args .i) (c .before .args .v) (c .if1 .taken))
 
@@ -16,4 +13,4 @@ returns-2 : tie.Need-returns-2
 returns-2 c = omega (arith, raise-low (c .before .args .i) (c .before .args .v) (c .if1 .left))
 
 pub raised-spec : {M : Type 1} → statement M
-raised-spec = tie.close (tie.spec add-result returns returns-2)
+raised-spec = tie.close (tie.spec (λ c. search needs) returns returns-2)

@@ -4,9 +4,6 @@ use borrow.Author.Needs.{needs}
 use Rattle.levels.proofs.numbers.turned_place.Statement.{statement}
 use Rattle.levels.proofs.numbers.turned_place.Tie as tie
 
-from-end-requires : tie.Need-from-end-requires
-from-end-requires c κs = search needs
-
 returns : tie.Need-returns
 returns c = rw (c .if1 .taken)
 
@@ -14,4 +11,4 @@ returns-2 : tie.Need-returns-2
 returns-2 c = rw (c .before .if1 .left) (c .from-end .ensures)
 
 pub turned-place-spec : {M : Type 1} → statement M
-turned-place-spec = tie.close (tie.spec from-end-requires returns returns-2)
+turned-place-spec = tie.close (tie.spec (λ c κs. search needs) returns returns-2)

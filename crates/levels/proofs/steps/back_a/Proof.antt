@@ -24,27 +24,6 @@ loop-holds : tie.Need-loop-holds Inv-loop μ-loop
 unfolding tabulate
 loop-holds c = (search needs, refl, refl)
 
-sub-loop : tie.Need-sub-loop Inv-loop μ-loop
-sub-loop c = search needs
-
-cast-at : tie.Need-cast-at Inv-loop μ-loop
-cast-at c = search needs
-
-add-port-back-a : tie.Need-add-port-back-a Inv-loop μ-loop
-add-port-back-a c = search needs
-
-port-back-a-requires : tie.Need-port-back-a-requires Inv-loop μ-loop
-port-back-a-requires c κs = search needs
-
-array-write-u : tie.Need-array-write-u Inv-loop μ-loop
-array-write-u c = search needs
-
-add-j : tie.Need-add-j Inv-loop μ-loop
-add-j c = search needs
-
-loop-less : tie.Need-loop-less Inv-loop μ-loop
-loop-less c = search needs
-
 loop-again : tie.Need-loop-again Inv-loop μ-loop
 loop-again c =
     let l = c .before .before in
@@ -64,12 +43,12 @@ back-a-spec =
     Inv-loop
     μ-loop
     loop-holds
-    sub-loop
-    cast-at
-    add-port-back-a
-    port-back-a-requires
-    array-write-u
-    add-j
-    loop-less
+    (λ c. search needs)
+    (λ c. search needs)
+    (λ c. search needs)
+    (λ c κs. search needs)
+    (λ c. search needs)
+    (λ c. search needs)
+    (λ c. search needs)
     loop-again
     returns)

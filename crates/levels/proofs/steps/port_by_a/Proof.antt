@@ -10,15 +10,6 @@ use Rattle.levels.proofs.steps.port_by_a.Tie as tie
 returns : tie.Need-returns
 returns c = let a = c .before .args in sym (is-same (a .j) (a .n) (a .i) _ (c .if1 .taken))
 
-sub-port-at : tie.Need-sub-port-at
-sub-port-at c = search needs
-
-port-at-requires : tie.Need-port-at-requires
-port-at-requires c κs = search needs
-
-traded-requires : tie.Need-traded-requires
-traded-requires c κs = search needs
-
 returns-2 : tie.Need-returns-2
 returns-2 c =
     let a = c .before .before .before .args in
@@ -26,4 +17,4 @@ returns-2 c =
 
 pub port-by-a-spec : {M : Type 1} → statement M
 port-by-a-spec =
-    tie.close (tie.spec returns sub-port-at port-at-requires traded-requires returns-2)
+    tie.close (tie.spec returns (λ c. search needs) (λ c κs. search needs) (λ c κs. search needs) returns-2)

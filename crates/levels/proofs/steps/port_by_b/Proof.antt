@@ -19,12 +19,6 @@ returns-2 c =
     let a = c .before .before .args in
     sym (is-other (a .j) (a .n) (a .i) _ (c .before .if1 .left) ∙ is-same (a .j) (a .i) (a .n) _ (c .if2 .taken))
 
-sub-port-at : tie.Need-sub-port-at
-sub-port-at c = search needs
-
-lowered-requires : tie.Need-lowered-requires
-lowered-requires c κs = search needs
-
 port-at-requires : tie.Need-port-at-requires
 port-at-requires c κs =
     let s = c .before .before .before in
@@ -51,8 +45,8 @@ port-by-b-spec =
     (tie.spec
     returns
     returns-2
-    sub-port-at
-    lowered-requires
+    (λ c. search needs)
+    (λ c κs. search needs)
     port-at-requires
     raised-requires
     returns-3)

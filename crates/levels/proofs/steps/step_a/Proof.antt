@@ -22,24 +22,6 @@ loop-holds : tie.Need-loop-holds Inv-loop μ-loop
 unfolding tabulate
 loop-holds c = (search needs, refl, refl)
 
-cast-at : tie.Need-cast-at Inv-loop μ-loop
-cast-at c = search needs
-
-add-port-by-a : tie.Need-add-port-by-a Inv-loop μ-loop
-add-port-by-a c = search needs
-
-port-by-a-requires : tie.Need-port-by-a-requires Inv-loop μ-loop
-port-by-a-requires c κs = search needs
-
-array-write-u : tie.Need-array-write-u Inv-loop μ-loop
-array-write-u c = search needs
-
-add-j : tie.Need-add-j Inv-loop μ-loop
-add-j c = search needs
-
-loop-less : tie.Need-loop-less Inv-loop μ-loop
-loop-less c = search needs
-
 loop-again : tie.Need-loop-again Inv-loop μ-loop
 loop-again c =
     let l = c .before .before in
@@ -56,11 +38,11 @@ step-a-spec =
     Inv-loop
     μ-loop
     loop-holds
-    cast-at
-    add-port-by-a
-    port-by-a-requires
-    array-write-u
-    add-j
-    loop-less
+    (λ c. search needs)
+    (λ c. search needs)
+    (λ c κs. search needs)
+    (λ c. search needs)
+    (λ c. search needs)
+    (λ c. search needs)
     loop-again
     returns)

@@ -22,24 +22,6 @@ loop-holds : tie.Need-loop-holds Inv-loop μ-loop
 unfolding tabulate
 loop-holds c = (search needs, refl, refl)
 
-cast-at : tie.Need-cast-at Inv-loop μ-loop
-cast-at c = search needs
-
-add-port-by-b : tie.Need-add-port-by-b Inv-loop μ-loop
-add-port-by-b c = search needs
-
-port-by-b-requires : tie.Need-port-by-b-requires Inv-loop μ-loop
-port-by-b-requires c κs = search needs
-
-array-write-u : tie.Need-array-write-u Inv-loop μ-loop
-array-write-u c = search needs
-
-add-j : tie.Need-add-j Inv-loop μ-loop
-add-j c = search needs
-
-loop-less : tie.Need-loop-less Inv-loop μ-loop
-loop-less c = search needs
-
 loop-again : tie.Need-loop-again Inv-loop μ-loop
 loop-again c =
     let l = c .before .before in
@@ -56,11 +38,11 @@ step-b-spec =
     Inv-loop
     μ-loop
     loop-holds
-    cast-at
-    add-port-by-b
-    port-by-b-requires
-    array-write-u
-    add-j
-    loop-less
+    (λ c. search needs)
+    (λ c. search needs)
+    (λ c κs. search needs)
+    (λ c. search needs)
+    (λ c. search needs)
+    (λ c. search needs)
     loop-again
     returns)

@@ -8,26 +8,17 @@ use Rattle.checks.proofs.Calls.{too-few, too-many, fits}
 use Rattle.patterns.proofs.counting.count.Statement.{statement}
 use Rattle.patterns.proofs.counting.count.Tie as tie
 
-nowhere-requires : tie.Need-nowhere-requires
-nowhere-requires c κs = search needs
-
 returns : tie.Need-returns
 unfolding countOf
 returns c = ap refusalOf (c .nowhere .ensures) ∙ sym (too-few _ _ _ (c .before .if1 .taken))
 
-nowhere-requires-2 : tie.Need-nowhere-requires-2
-nowhere-requires-2 c κs = search needs
-
 returns-2 : tie.Need-returns-2
 unfolding countOf
 returns-2 c = ap refusalOf (c .nowhere2 .ensures) ∙ sym (too-many _ _ _ (c .before .before .if1 .left) (c .before .if2 .taken))
-
-count-of-requires : tie.Need-count-of-requires
-count-of-requires c κs = search needs
 
 returns-3 : tie.Need-returns-3
 unfolding countOf
 returns-3 c = ap accepted (c .count-of .ensures) ∙ sym (fits _ _ _ (c .before .before .if1 .left) (c .before .if2 .left))
 
 pub count-spec : {M : Type 1} → statement M
-count-spec = tie.close (tie.spec nowhere-requires returns nowhere-requires-2 returns-2 count-of-requires returns-3)
+count-spec = tie.close (tie.spec (λ c κs. search needs) returns (λ c κs. search needs) returns-2 (λ c κs. search needs) returns-3)

@@ -16,25 +16,13 @@ use Rattle.patterns.proofs.Calls.{is-rank, no-rank}
 use Rattle.patterns.proofs.counting.step.Statement.{statement}
 use Rattle.patterns.proofs.counting.step.Tie as tie
 
-nowhere-requires : tie.Need-nowhere-requires
-nowhere-requires c κs = search needs
-
 returns : tie.Need-returns
 unfolding stepOf
 returns c = ap refusalOf (c .nowhere .ensures) ∙ sym (too-few _ _ _ (c .before .if1 .taken))
 
-nowhere-requires-2 : tie.Need-nowhere-requires-2
-nowhere-requires-2 c κs = search needs
-
 returns-2 : tie.Need-returns-2
 unfolding stepOf
 returns-2 c = ap refusalOf (c .nowhere2 .ensures) ∙ sym (too-many _ _ _ (c .before .before .if1 .left) (c .before .if2 .taken))
-
-count-of-requires : tie.Need-count-of-requires
-count-of-requires c κs = search needs
-
-nowhere-requires-3 : tie.Need-nowhere-requires-3
-nowhere-requires-3 c κs = search needs
 
 returns-3 : tie.Need-returns-3
 unfolding stepOf
@@ -63,12 +51,12 @@ pub step-spec : {M : Type 1} → statement M
 step-spec =
     tie.close
     (tie.spec
-    nowhere-requires
+    (λ c κs. search needs)
     returns
-    nowhere-requires-2
+    (λ c κs. search needs)
     returns-2
-    count-of-requires
-    nowhere-requires-3
+    (λ c κs. search needs)
+    (λ c κs. search needs)
     returns-3
     place-around-requires
     returns-4)

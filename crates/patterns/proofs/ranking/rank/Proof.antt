@@ -13,15 +13,6 @@ use Rattle.patterns.proofs.Accepted.{rank-refused, rank-accepted}
 use Rattle.patterns.proofs.ranking.rank.Statement.{statement}
 use Rattle.patterns.proofs.ranking.rank.Tie as tie
 
-check-requires : tie.Need-check-requires
-check-requires c κs = search needs
-
-enum-known-f : tie.Need-enum-known-f
-enum-known-f c = search needs
-
-enum-told : tie.Need-enum-told
-enum-told c = search needs
-
 -- the check that the match found sound was accepted
 sound : (c : tie.After-enum-told) → accepted tt ≡ checkOf mostPorts (c .before .before .before .before .args .p .now)
 sound c = ap checkedTold (sym (c .enum-told .given .1)) ∙ c .before .before .check .ensures
@@ -49,9 +40,9 @@ pub rank-spec : {M : Type 1} → statement M
 rank-spec =
     tie.close
     (tie.spec
-    check-requires
-    enum-known-f
-    enum-told
+    (λ c κs. search needs)
+    (λ c. search needs)
+    (λ c. search needs)
     load-requires
     cast-place
     place-requires

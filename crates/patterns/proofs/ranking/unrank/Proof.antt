@@ -11,28 +11,13 @@ use Rattle.patterns.specs.Calls.{unrankOf}
 use Rattle.patterns.proofs.ranking.unrank.Statement.{statement}
 use Rattle.patterns.proofs.ranking.unrank.Tie as tie
 
-nowhere-requires : tie.Need-nowhere-requires
-nowhere-requires c κs = search needs
-
 returns : tie.Need-returns
 unfolding unrankOf
 returns c = rw (c .nowhere .ensures) (unrank-refused _ _ _ _ _ (too-few _ _ _ (c .before .if1 .taken)))
 
-nowhere-requires-2 : tie.Need-nowhere-requires-2
-nowhere-requires-2 c κs = search needs
-
 returns-2 : tie.Need-returns-2
 unfolding unrankOf
 returns-2 c = rw (c .nowhere2 .ensures) (unrank-refused _ _ _ _ _ (too-many _ _ _ (c .before .before .if1 .left) (c .before .if2 .taken)))
-
-cast-n : tie.Need-cast-n
-cast-n c = search needs
-
-count-of-requires : tie.Need-count-of-requires
-count-of-requires c κs = search needs
-
-nowhere-requires-3 : tie.Need-nowhere-requires-3
-nowhere-requires-3 c κs = search needs
 
 returns-3 : tie.Need-returns-3
 unfolding unrankOf
@@ -43,12 +28,6 @@ returns-3 c =
 
 pattern-of-requires : tie.Need-pattern-of-requires
 pattern-of-requires c κs = (c .before .before .if2 .left, rw (c .before .count-of .ensures) at (c .if3 .left))
-
-store-requires : tie.Need-store-requires
-store-requires c κs = search needs
-
-same-length : tie.Need-same-length
-same-length c = search needs
 
 returns-4 : tie.Need-returns-4
 unfolding unrankOf
@@ -63,15 +42,15 @@ pub unrank-spec : {M : Type 1} → statement M
 unrank-spec =
     tie.close
     (tie.spec
-    nowhere-requires
+    (λ c κs. search needs)
     returns
-    nowhere-requires-2
+    (λ c κs. search needs)
     returns-2
-    cast-n
-    count-of-requires
-    nowhere-requires-3
+    (λ c. search needs)
+    (λ c κs. search needs)
+    (λ c κs. search needs)
     returns-3
     pattern-of-requires
-    store-requires
-    same-length
+    (λ c κs. search needs)
+    (λ c. search needs)
     returns-4)

@@ -12,38 +12,11 @@ use Rattle.patterns.specs.Signs.{signedIs}
 use Rattle.patterns.proofs.stepping.place_around.Statement.{statement}
 use Rattle.patterns.proofs.stepping.place_around.Tie as tie
 
-by-sign-requires : tie.Need-by-sign-requires
-by-sign-requires c κs = search needs
-
-enum-known-m : tie.Need-enum-known-m
-enum-known-m c = search needs
-
-rem-result : tie.Need-rem-result
-rem-result c = search needs
-
 add-result : tie.Need-add-result
 add-result c = let s = c .before .before .before .before in omega (arith, mod-lt (c .before .m .given .0 .0) {m = s .args .total} (omega arith))
 
-rem-result-2 : tie.Need-rem-result-2
-rem-result-2 c = search needs
-
-enum-known-m-2 : tie.Need-enum-known-m-2
-enum-known-m-2 c = search needs
-
-sub-result : tie.Need-sub-result
-sub-result c = search needs
-
-rem-result-3 : tie.Need-rem-result-3
-rem-result-3 c = search needs
-
 sub-result-2 : tie.Need-sub-result-2
 sub-result-2 c = let s = c .before .before .before .before in omega (arith, mod-lt (c .before .m2 .given .0 .0) {m = s .args .total} (omega arith))
-
-add-result-2 : tie.Need-add-result-2
-add-result-2 c = search needs
-
-rem-result-4 : tie.Need-rem-result-4
-rem-result-4 c = search needs
 
 -- the sign that the match found is k's
 returns : tie.Need-returns
@@ -65,16 +38,16 @@ pub place-around-spec : {M : Type 1} → statement M
 place-around-spec =
     tie.close
     (tie.spec
-    by-sign-requires
-    enum-known-m
-    rem-result
+    (λ c κs. search needs)
+    (λ c. search needs)
+    (λ c. search needs)
     add-result
-    rem-result-2
-    enum-known-m-2
-    sub-result
-    rem-result-3
+    (λ c. search needs)
+    (λ c. search needs)
+    (λ c. search needs)
+    (λ c. search needs)
     sub-result-2
-    add-result-2
-    rem-result-4
+    (λ c. search needs)
+    (λ c. search needs)
     returns
     returns-2)

@@ -6,15 +6,6 @@ use Rattle.listing.proofs.Numbers.{less-one}
 use Rattle.ranks.proofs.ranking.blocks_before.Statement.{statement}
 use Rattle.ranks.proofs.ranking.blocks_before.Tie as tie
 
-sub-result : tie.Need-sub-result
-sub-result c = search needs
-
-sub-result-2 : tie.Need-sub-result-2
-sub-result-2 c = search needs
-
-sub-result-3 : tie.Need-sub-result-3
-sub-result-3 c = search needs
-
 returns : tie.Need-returns
 returns c = rw (c .if1 .taken) (less-one (c .before .args .i))
 
@@ -22,4 +13,4 @@ returns-2 : tie.Need-returns-2
 returns-2 c = rw (c .if1 .left) (omega arith)
 
 pub blocks-before-spec : {M : Type 1} → statement M
-blocks-before-spec = tie.close (tie.spec sub-result sub-result-2 sub-result-3 returns returns-2)
+blocks-before-spec = tie.close (tie.spec (λ c. search needs) (λ c. search needs) (λ c. search needs) returns returns-2)

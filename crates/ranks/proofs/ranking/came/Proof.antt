@@ -5,12 +5,6 @@ use Rattle.ranks.proofs.Passing.{came-A, came-B}
 use Rattle.ranks.proofs.ranking.came.Statement.{statement}
 use Rattle.ranks.proofs.ranking.came.Tie as tie
 
-port-at-requires : tie.Need-port-at-requires
-port-at-requires c κs = search needs
-
-port-at-requires-2 : tie.Need-port-at-requires-2
-port-at-requires-2 c κs = search needs
-
 returns : tie.Need-returns
 returns c = came-B _ (c .before .before .port-at .ensures) (c .before .port-at2 .ensures) (c .if1 .taken)
 
@@ -18,4 +12,4 @@ returns-2 : tie.Need-returns-2
 returns-2 c = came-A _ (c .before .before .port-at .ensures) (c .before .port-at2 .ensures) (c .if1 .left)
 
 pub came-spec : {M : Type 1} → statement M
-came-spec = tie.close (tie.spec port-at-requires port-at-requires-2 returns returns-2)
+came-spec = tie.close (tie.spec (λ c κs. search needs) (λ c κs. search needs) returns returns-2)

@@ -6,18 +6,6 @@ use Rattle.ranks.proofs.Passing.{sides}
 use Rattle.ranks.proofs.ranking.comes_first.Statement.{statement}
 use Rattle.ranks.proofs.ranking.comes_first.Tie as tie
 
-enum-known-c : tie.Need-enum-known-c
-enum-known-c c = search needs
-
-is-odd-requires : tie.Need-is-odd-requires
-is-odd-requires c κs = search needs
-
-enum-known-c-2 : tie.Need-enum-known-c-2
-enum-known-c-2 c = search needs
-
-is-odd-requires-2 : tie.Need-is-odd-requires-2
-is-odd-requires-2 c κs = search needs
-
 returns : tie.Need-returns
 returns c =
     let i = c .before .before .c .given in
@@ -31,4 +19,4 @@ returns-2 c =
 pub comes-first-spec : {M : Type 1} → statement M
 comes-first-spec =
     tie.close
-    (tie.spec enum-known-c is-odd-requires enum-known-c-2 is-odd-requires-2 returns returns-2)
+    (tie.spec (λ c. search needs) (λ c κs. search needs) (λ c. search needs) (λ c κs. search needs) returns returns-2)

@@ -7,29 +7,8 @@ use Rattle.listing.proofs.Numbers.{less-one, less-two}
 use Rattle.ranks.proofs.ranking.first_part.Statement.{statement}
 use Rattle.ranks.proofs.ranking.first_part.Tie as tie
 
-comes-first-requires : tie.Need-comes-first-requires
-comes-first-requires c κs = search needs
-
 returns : tie.Need-returns
 returns c = rw (← c .before .comes-first .ensures, c .if1 .taken)
-
-enum-told : tie.Need-enum-told
-enum-told c = search needs
-
-sub-count-of : tie.Need-sub-count-of
-sub-count-of c = search needs
-
-count-of-requires : tie.Need-count-of-requires
-count-of-requires c κs = search needs
-
-enum-told-2 : tie.Need-enum-told-2
-enum-told-2 c = search needs
-
-sub-count-of-2 : tie.Need-sub-count-of-2
-sub-count-of-2 c = search needs
-
-count-of-requires-2 : tie.Need-count-of-requires-2
-count-of-requires-2 c κs = search needs
 
 returns-2 : tie.Need-returns-2
 returns-2 c =
@@ -47,13 +26,13 @@ pub first-part-spec : {M : Type 1} → statement M
 first-part-spec =
     tie.close
     (tie.spec
-    comes-first-requires
+    (λ c κs. search needs)
     returns
-    enum-told
-    sub-count-of
-    count-of-requires
-    enum-told-2
-    sub-count-of-2
-    count-of-requires-2
+    (λ c. search needs)
+    (λ c. search needs)
+    (λ c κs. search needs)
+    (λ c. search needs)
+    (λ c. search needs)
+    (λ c κs. search needs)
     returns-2
     returns-3)

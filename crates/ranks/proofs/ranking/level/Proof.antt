@@ -17,27 +17,6 @@ passed-over-requires c κs =
     let s = c .before in
     (s .pre .0, s .pre .1, end-among (s .pre .0) (s .pre .2) (c .came .ensures))
 
-comes-first-requires : tie.Need-comes-first-requires
-comes-first-requires c κs = search needs
-
-enum-told : tie.Need-enum-told
-enum-told c = search needs
-
-sub-t8 : tie.Need-sub-t8
-sub-t8 c = search needs
-
-back-a-requires : tie.Need-back-a-requires
-back-a-requires c κs = search needs
-
-enum-told-2 : tie.Need-enum-told-2
-enum-told-2 c = search needs
-
-sub-t10 : tie.Need-sub-t10
-sub-t10 c = search needs
-
-back-b-requires : tie.Need-back-b-requires
-back-b-requires c κs = search needs
-
 returns : tie.Need-returns
 returns c =
     let e = c .before .enum-told .given .1 in
@@ -66,12 +45,12 @@ level-spec =
     (tie.spec
     came-requires
     passed-over-requires
-    comes-first-requires
-    enum-told
-    sub-t8
-    back-a-requires
-    enum-told-2
-    sub-t10
-    back-b-requires
+    (λ c κs. search needs)
+    (λ c. search needs)
+    (λ c. search needs)
+    (λ c κs. search needs)
+    (λ c. search needs)
+    (λ c. search needs)
+    (λ c κs. search needs)
     returns
     returns-2)

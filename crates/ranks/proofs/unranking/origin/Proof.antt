@@ -7,9 +7,6 @@ use Rattle.ranks.proofs.Origins.{size-some, blocks-fewer, place-inside,
 use Rattle.ranks.proofs.unranking.origin.Statement.{statement}
 use Rattle.ranks.proofs.unranking.origin.Tie as tie
 
-block-size-requires : tie.Need-block-size-requires
-block-size-requires c κs = search needs
-
 div-i : tie.Need-div-i
 div-i c = size-some (c .before .pre .0) (c .before .pre .2) (c .block-size .ensures)
 
@@ -19,20 +16,11 @@ add-i c = omega (arith, blocks-fewer (c .before .pre .0) (c .before .pre .2) (c 
 cast-i : tie.Need-cast-i
 cast-i c = omega (arith, blocks-fewer (c .before .pre .0) (c .before .pre .2) (c .block-size .ensures))
 
-is-odd-requires : tie.Need-is-odd-requires
-is-odd-requires c κs = search needs
-
 rem-turned-place : tie.Need-rem-turned-place
 rem-turned-place c = let b = c .before in size-some (b .before .pre .0) (b .before .pre .2) (b .block-size .ensures)
 
 turned-place-requires : tie.Need-turned-place-requires
 turned-place-requires c κs = let b = c .before in mod-lt _ (size-some (b .before .pre .0) (b .before .pre .2) (b .block-size .ensures))
-
-sub-count-of : tie.Need-sub-count-of
-sub-count-of c = search needs
-
-count-of-requires : tie.Need-count-of-requires
-count-of-requires c κs = search needs
 
 from-end-requires : tie.Need-from-end-requires
 from-end-requires c κs =
@@ -60,15 +48,15 @@ pub origin-spec : {M : Type 1} → statement M
 origin-spec =
     tie.close
     (tie.spec
-    block-size-requires
+    (λ c κs. search needs)
     div-i
     add-i
     cast-i
-    is-odd-requires
+    (λ c κs. search needs)
     rem-turned-place
     turned-place-requires
-    sub-count-of
-    count-of-requires
+    (λ c. search needs)
+    (λ c κs. search needs)
     from-end-requires
     returns
     returns-2)
