@@ -18,5 +18,6 @@ checked-once (Checked-Refused f) Sound e = cc
 checked-once (Checked-Refused f) (Checked-Refused g) e = ap Checked-Refused (refusal-once f g e)
 
 -- the check of a pattern, and of a panel
-pub only-check : (pattern : Bool) (p : List ℕ) (r s : Checked) → checkedTold r ≡ checkAs pattern mostPorts p → checkedTold s ≡ checkAs pattern mostPorts p → r ≡ s
+pub only-check : (pattern : Bool) (p : List ℕ) (r s : Checked)
+    → checkedTold r ≡ checkAs pattern mostPorts p → checkedTold s ≡ checkAs pattern mostPorts p → r ≡ s
 only-check pattern p r s e f = checked-once r s (e ∙ sym f)

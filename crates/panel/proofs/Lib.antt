@@ -2,3 +2,4 @@ pub mod Accepted
 pub mod Joined
 pub mod Carried
 pub mod Only
+pub mod Refusals

@@ -15,7 +15,8 @@ returns-2 : tie.Need-returns-2
 unfolding shaped
 returns-2 c =
     let t = c .before .before .before in
-    rw (t .before .before .before .before .o2 .given .1, ne-eqb _ _ (t .if1 .left), sym (c .before .before .in-order2 .ensures) ∙ c .before .if2 .taken) (c .in-order3 .ensures)
+    let first = sym (c .before .before .in-order2 .ensures) ∙ c .before .if2 .taken in
+    rw (t .before .before .before .before .o2 .given .1, ne-eqb _ _ (t .if1 .left), first) (c .in-order3 .ensures)
 
 returns-3 : tie.Need-returns-3
 unfolding shaped
