@@ -2,7 +2,7 @@
 -- Assumes nothing.
 use mathlib.Core.Path.{_≡_, refl, sym}
 use mathlib.Core.Logic.{_≢_}
-use mathlib.Core.Bool.{Bool, true, false, cond}
+use mathlib.Core.Bool.{Bool, true, false, cond, true≢false}
 use mathlib.Core.List.{List}
 use Prim.Native.Nat.{ℕ, zero, suc, _+_, _≤_, _<_}
 use native.Mathlib.Omega.{arith}
@@ -52,12 +52,12 @@ clean-sound false n p j c = let h = c .port in rw (ne-eqb (entry p j) 0 (omega a
 only-sound : (zero? in? fresh? pattern own? : Bool) (j k : ℕ)
     → cond zero? (outside j) (cond in? (cond fresh? (cond pattern (cond own? (ownJack j) sound) sound) (repeated j k)) (outside j)) ≡ sound
     → (zero? ≡ false) × (in? ≡ true) × (fresh? ≡ true) × (pattern ≡ true → own? ≡ false)
-only-sound true i f t o j k e = absurd (let z : _≡_ {A = ℕ} 0 1 = cc in omega arith)
-only-sound false false f t o j k e = absurd (let z : _≡_ {A = ℕ} 0 1 = cc in omega arith)
-only-sound false true false t o j k e = absurd (let z : _≡_ {A = ℕ} 0 1 = cc in omega arith)
-only-sound false true true true true j k e = absurd (let z : _≡_ {A = ℕ} 0 1 = cc in omega arith)
+only-sound true i f t o j k e = absurd (true≢false (cc))
+only-sound false false f t o j k e = absurd (true≢false (cc))
+only-sound false true false t o j k e = absurd (true≢false (cc))
+only-sound false true true true true j k e = absurd (true≢false (cc))
 only-sound false true true true false j k e = (refl, refl, refl, λ t. refl)
-only-sound false true true false o j k e = (refl, refl, refl, λ t. absurd (let z : _≡_ {A = ℕ} 0 1 = cc in omega arith))
+only-sound false true true false o j k e = (refl, refl, refl, λ t. absurd (true≢false (cc)))
 
 sound-clean : (pattern : Bool) (n : ℕ) (p : List ℕ) (j : ℕ) → faultAt pattern n p j ≡ sound → Clean pattern n p j
 unfolding faultAt
@@ -71,9 +71,9 @@ sound-clean pattern n p j e =
 
 only-firsts : (f g : Fault) → firstOf f g ≡ sound → (f ≡ sound) × (g ≡ sound)
 only-firsts sound g e = (refl, e)
-only-firsts (outside j) g e = absurd (let z : _≡_ {A = ℕ} 0 1 = cc in omega arith)
-only-firsts (repeated j k) g e = absurd (let z : _≡_ {A = ℕ} 0 1 = cc in omega arith)
-only-firsts (ownJack j) g e = absurd (let z : _≡_ {A = ℕ} 0 1 = cc in omega arith)
+only-firsts (outside j) g e = absurd (true≢false (cc))
+only-firsts (repeated j k) g e = absurd (true≢false (cc))
+only-firsts (ownJack j) g e = absurd (true≢false (cc))
 
 from-clean : (pattern : Bool) (n : ℕ) (p : List ℕ) (j k : ℕ) → faultFrom pattern n p j k ≡ sound → (i : ℕ) → j ≤ i → i < j + k → Clean pattern n p i
 unfolding faultFrom
@@ -135,7 +135,7 @@ clean-permutation pattern p P away =
     })
 
 pub permutation-panel : (p : List ℕ) → Permutation (length p) p → faultOf false p ≡ sound
-permutation-panel p P = clean-permutation false p P (λ t. absurd (let z : _≡_ {A = ℕ} 0 1 = cc in omega arith))
+permutation-panel p P = clean-permutation false p P (λ t. absurd (true≢false (cc)))
 
 pub derangement-check : (p : List ℕ) → Derangement (length p) p → faultOf true p ≡ sound
 derangement-check p D = clean-permutation true p (D .permutation) (λ t. D .moved)

@@ -1,6 +1,7 @@
 -- The text of a number and the number of a text are inverse, both ways: `number-of-digits`, `digits-of-number`.
 -- Assumes nothing.
 use mathlib.Core.Path.{_≡_, refl, sym, ap, _∙_}
+use mathlib.Core.Bool.{true≢false}
 use mathlib.Core.Logic.{_⊎_, inl, inr}
 use mathlib.Core.List.{List, [], _∷_, _++_, append-nil}
 use mathlib.Core.Option.{Option, none, some}
@@ -15,7 +16,7 @@ use Rattle.decimals.proofs.Digits.{digits-one, digits-more, by-tens}
 
 -- something is not none
 pub none-some : {A : Type 0} (a : A) → none ≡ some a → ⊥
-none-some a e = let z : _≡_ {A = ℕ} 0 1 = cc in omega arith
+none-some a e = true≢false (cc)
 
 -- ---- digits
 

@@ -77,7 +77,7 @@ order-panel most o p P s =
     record {
       low = rw long (P .low);
       high = rw long (P .high);
-      panel = rw long (carry-permutation (length p) o p s (P .panel));
+      is = rw long (carry-permutation (length p) o p s (P .is));
     }
 
 -- and so is the panel after each line that fits

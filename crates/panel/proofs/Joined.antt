@@ -2,7 +2,7 @@
 -- Assumes nothing.
 use mathlib.Core.Path.{_≡_, refl, sym, ap, _∙_}
 use mathlib.Core.Logic.{_≢_}
-use mathlib.Core.Bool.{Bool, true, false, cond}
+use mathlib.Core.Bool.{Bool, true, false, cond, true≢false}
 use mathlib.Core.List.{List}
 use Prim.Native.Nat.{ℕ, zero, suc, _+_, _≤_, _<_}
 use native.Mathlib.Omega.{arith}
@@ -27,8 +27,8 @@ use Rattle.panel.proofs.Accepted.{fitting}
 parts : {A : Type 0} (t : Told (Unit {0})) (fits : Bool) (a b : A) → accepted a ≡ then t (λ ok. cond fits (accepted b) (refused 17 nowhere))
     → (accepted tt ≡ t) × (fits ≡ true) × (a ≡ b)
 parts (accepted ok) true a b e = (refl, refl, cc)
-parts (accepted ok) false a b e = absurd (let z : _≡_ {A = ℕ} 0 1 = cc in omega arith)
-parts (refused k s) fits a b e = absurd (let z : _≡_ {A = ℕ} 0 1 = cc in omega arith)
+parts (accepted ok) false a b e = absurd (true≢false (cc))
+parts (refused k s) fits a b e = absurd (true≢false (cc))
 
 module _ {A : Type 0} (most : ℕ) (p : List ℕ) (fits : Bool) where
   -- an accepted call found a permutation of 2 to `most` ports and something that fits it, and gives what is defined
@@ -69,15 +69,15 @@ module _ (most : ℕ) (p : List ℕ) (P : Panel most p) where
   -- every port of a panel has its jack
   held : (v : ℕ) → Among (length p) v → Among (length p) (seek p v 1 (length p)) × (entry p (seek p v 1 (length p)) ≡ v)
   held v h =
-      let s = stands (length p) p (P .panel) v h in
+      let s = stands (length p) p (P .is) v h in
       let f = finds p v 1 (length p) (s .0) (s .1 .0) (omega (arith, s .1)) (s .2) in
       (omega arith, f .2)
 
   -- and no other
   only-held : (v j : ℕ) → Among (length p) j → entry p j ≡ v → seek p v 1 (length p) ≡ j
   only-held v j h e =
-      let f = held v (rw e at (P .panel .ports j h)) in
-      P .panel .apart (seek p v 1 (length p)) j (f .0) h (f .1 ∙ sym e)
+      let f = held v (rw e at (P .is .ports j h)) in
+      P .is .apart (seek p v 1 (length p)) j (f .0) h (f .1 ∙ sym e)
 
 pub jack-told : (most : ℕ) (p : List ℕ) (v j : ℕ) → accepted j ≡ jackOf most p v → Panel most p × Among (length p) j × (entry p j ≡ v)
 unfolding jackOf
@@ -90,7 +90,7 @@ pub told-jack : (most : ℕ) (p : List ℕ) (j : ℕ) → Panel most p → Among
 unfolding jackOf
 told-jack most p j P h =
     rw (only-held most p P (entry p j) j h refl)
-    (fits-told most p (oneOf (length p) (entry p j)) j P (among-one (length p) (entry p j) (P .panel .ports j h)))
+    (fits-told most p (oneOf (length p) (entry p j)) j P (among-one (length p) (entry p j) (P .is .ports j h)))
 
 -- ---- the look-ups are inverse
 

@@ -2,10 +2,9 @@
 -- Assumes nothing.
 use mathlib.Core.Path.{_≡_, refl}
 use mathlib.Core.Logic.{_⊎_, inl, inr}
-use mathlib.Core.Bool.{Bool, true, false, cond}
+use mathlib.Core.Bool.{Bool, true, false, cond, true≢false}
 use mathlib.Core.List.{List}
 use Prim.Native.Nat.{ℕ, zero, suc}
-use native.Mathlib.Omega.{arith}
 use lib.Dec.{eqb, leb}
 use lib.ListN.{length}
 use Rattle.listing.specs.Pattern.{entry}
@@ -53,7 +52,7 @@ from-panel n p j (suc k) =
 
 -- such a fault tells 3 or 4
 told-number : (f : Fault) → OfPanel f → (k : ℕ) (s : Spot) → refused k s ≡ faultTold f (tt {0}) → PanelNumber k
-told-number sound o k s e = absurd (let z : _≡_ {A = ℕ} 0 1 = cc in omega arith)
+told-number sound o k s e = absurd (true≢false (cc))
 told-number (outside j) o k s e = inr (inl (cc))
 told-number (repeated j i) o k s e = inr (inr (cc))
 told-number (ownJack j) o k s e = absurd o
@@ -75,7 +74,7 @@ parts : {A : Type 0} (t : Told (Unit {0})) (fits : Bool) (b : A) (k : ℕ) (s : 
     → (refused k s ≡ t) ⊎ ((accepted tt ≡ t) × (fits ≡ false) × (k ≡ 17) × (s ≡ nowhere))
 parts (refused i r) fits b k s e = inl (cc)
 parts (accepted ok) false b k s e = inr (refl, refl, cc, cc)
-parts (accepted ok) true b k s e = absurd (let z : _≡_ {A = ℕ} 0 1 = cc in omega arith)
+parts (accepted ok) true b k s e = absurd (true≢false (cc))
 
 -- a call is refused with 1, 3 or 4 for the panel, or with 17 at no place, and then the panel is one and what was asked does not fit it
 pub refusals : {A : Type 0} (most : ℕ) (p : List ℕ) (fits : Bool) (a : A) (k : ℕ) (s : Spot) → refused k s ≡ onPanel most p fits a

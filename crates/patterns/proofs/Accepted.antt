@@ -60,11 +60,11 @@ module _ (most : ℕ) (p : List ℕ) (e : accepted tt ≡ checkOf most p) where
   whole = accepted-pattern most p e
 
   pub rank-fits : rank (length p) p < count (length p)
-  rank-fits = rank-below (length p) p (whole .pattern)
+  rank-fits = rank-below (length p) p (whole .is)
 
   pub goes : (back : Bool) → Leads (length p) (moveBeside (length p) back (rank (length p) p)) p (at (length p) (rankBeside (length p) back (rank (length p) p)))
   goes back =
-      rw (at-rank (length p) p (whole .pattern)) at
+      rw (at-rank (length p) p (whole .is)) at
       (from-two (λ n. (b : Bool) (r : ℕ) → r < count n → Leads n (moveBeside n b r) (at n r) (at n (rankBeside n b r))) beside-leads
       (length p) (whole .low) back (rank (length p) p) rank-fits)
 

@@ -1,7 +1,7 @@
 -- A signed number by its sign. The code reads a signed value from its bits; `read z` is what it then has.
 -- Assumes nothing.
 use mathlib.Core.Path.{_≡_, refl, ap, sym, subst, _∙_}
-use mathlib.Core.Bool.{true, false}
+use mathlib.Core.Bool.{true, false, true≢false}
 use Prim.Native.Nat.{ℕ, suc, _-_}
 use native.Mathlib.Omega.{arith}
 use lib.Dec.{T, ltb}
@@ -37,7 +37,7 @@ ahead : (z x : ℤ) → SFits w64 z → x ≡ z → ltZ x (pos 0) ≡ false → 
 ahead (pos n) x f e t = record { steps = n; half = f; from = e; is = refl }
 ahead (negsuc m) x f e t =
     let u : true ≡ false = ap (λ (y : ℤ). ltZ y (pos 0)) (sym e) ∙ t in
-    absurd (let q : _≡_ {A = ℕ} 0 1 = cc in omega arith)
+    absurd (true≢false (cc))
 
 -- a number of 63 bits is cast as it is
 cast : (x : ℤ) (m : ℕ) → SFits w64 (pos m) → x ≡ pos m → T (nonNeg x) × Fits w64 (natAbs x)

@@ -1,7 +1,7 @@
 -- Between marks exactly the orders come that lead there: the carriage before a leg's first mark, inside a leg the family's orders to the neighbour.
 -- Assumes nothing.
 use mathlib.Core.Path.{_≡_, refl, sym, ap, _∙_}
-use mathlib.Core.Bool.{Bool, true, false, not}
+use mathlib.Core.Bool.{Bool, true, false, not, true≢false}
 use mathlib.Core.List.{List, [], _∷_, _++_, append-nil}
 use mathlib.Core.Option.{some}
 use Prim.Native.Nat.{ℕ, suc, _<_}
@@ -51,7 +51,7 @@ module _ (C : Setting) (lawful : Lawful (C .family)) (accepted : Accepted (C .fa
   led-from again os last L (stop f) = tt
   led-from {s} again os last L (then {t = t} f (moves-on o vs st en w) h) = led-from again (os ++ (o ∷ [])) last (record {
     standing = λ y. clash y st;
-    repeat = λ y. absurd (let z : _≡_ {A = ℕ} 0 1 = cc (sym w ∙ L .repeat y) in omega arith);
+    repeat = λ y. absurd (true≢false (cc (sym w ∙ L .repeat y)));
     onward = λ st' en' ag us e.
         append-snoc os o us ∙ ap {B = List Order} (λ l. os ++ o ∷ l) (some-eq (sym e ∙ step-on C lawful accepted s f o vs w)) ∙ L .onward st en ag (o ∷ vs) w;
   }) h

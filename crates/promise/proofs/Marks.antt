@@ -1,7 +1,7 @@
 -- Clauses a and b of demand three, of every history: every mark meets its pattern, the marks are those of the plan's list, after an error the same mark comes.
 -- Assumes nothing.
 use mathlib.Core.Path.{_≡_, refl, sym, ap, ap₂, _∙_, subst}
-use mathlib.Core.Bool.{Bool, true, false, not, cond, _&&_}
+use mathlib.Core.Bool.{Bool, true, false, not, cond, _&&_, true≢false}
 use mathlib.Core.List.{List, [], _∷_, _++_}
 use mathlib.Core.Option.{some}
 use Prim.Native.Nat.{ℕ, zero, suc, _+_, _<_}
@@ -172,7 +172,7 @@ module _ (C : Setting) (lawful : Lawful (C .family)) (accepted : Accepted (C .fa
   again-so {s} again m fa fs (then f (moves-on o os st en w) h) = (first-try again fa, again-so again m (λ x. clash x (first-try again fa)) fs h)
     where
       first-try : (again : Bool) → (again ≡ true → (m ≡ markOf C s) × (todo C s ≡ some [])) → again ≡ false
-      first-try true fa = absurd (let z : _≡_ {A = ℕ} 0 1 = cc (sym w ∙ fa refl .1) in omega arith)
+      first-try true fa = absurd (true≢false (cc (sym w ∙ fa refl .1)))
       first-try false fa = refl
   again-so {s} again m fa fs (then f (hands-out st en w) h) = (λ x. sym (fa x .0), again-so false (markOf C s) (λ x. clash x refl) (λ x. refl) h)
   again-so again m fa fs (then f (ends en) h) = again-so again m fa fs h

@@ -3,7 +3,7 @@
 -- Assumes nothing.
 use mathlib.Core.Path.{_≡_, refl, sym, ap, _∙_}
 use mathlib.Core.Logic.{_≢_}
-use mathlib.Core.Bool.{Bool, true, false, cond}
+use mathlib.Core.Bool.{Bool, true, false, cond, true≢false}
 use mathlib.Core.List.{List, [], _∷_}
 use mathlib.Core.Option.{Option, some}
 use Prim.Native.Nat.{ℕ, zero, suc, _+_, _-_, _*_, _≤_, _<_}
@@ -197,7 +197,7 @@ module _ (C : Setting) (lawful : Lawful (C .family)) (accepted : Accepted (C .fa
   due-answered s f k = by-mark (s .standing) refl
     where
       by-mark : (b : Bool) → s .standing ≡ b → answer C (cond b (report 0) (request (C .width (offer C s)))) s ≢ refusal k
-      by-mark true st e = let z : _≡_ {A = ℕ} 0 1 = cc (ran-taken C s f st) in omega arith
+      by-mark true st e = true≢false (cc (ran-taken C s f st))
       by-mark false st e = no-refusal (offered-so C s f st) k (sym (served C s (C .width (offer C s)) f st (omega arith)) ∙ e)
 
   -- so none of them is

@@ -1,7 +1,7 @@
 -- The orders still to come: the panels on their way, what they lead to, how many they are, and what is left after one of them is carried out.
 -- Assumes nothing.
 use mathlib.Core.Path.{_≡_, refl, sym, ap, ap₂, _∙_, subst}
-use mathlib.Core.Bool.{Bool, true, false, cond}
+use mathlib.Core.Bool.{Bool, true, false, cond, true≢false}
 use mathlib.Core.List.{List, [], _∷_, head-eq-of-cons-eq, tail-eq-of-cons-eq}
 use mathlib.Core.Option.{Option, none, some, orElse}
 use Prim.Native.Nat.{ℕ, zero, suc, _-_, _≤_, _<_}
@@ -27,7 +27,7 @@ some-eq e = cc
 
 -- and is not nothing
 pub no-none : {A B : Type 0} {a : A} {o : Option A} → o ≡ none → o ≡ some a → B
-no-none e f = absurd (let z : _≡_ {A = ℕ} 0 1 = cc in omega arith)
+no-none e f = absurd (true≢false (cc))
 
 -- ---- what is left of a list of orders
 

@@ -7,8 +7,7 @@ use borrow.Author.Needs.{needs}
 use lib.ListN.{length, take}
 use Rattle.listing.specs.Numbers.{before}
 use Rattle.listing.specs.Pattern.{tabulate}
-use Rattle.listing.specs.Steps.{unA}
-use Rattle.levels.specs.Entries.{byBackA}
+use Rattle.listing.specs.Steps.{byBackA, unA}
 use Rattle.levels.proofs.Filling.{tabulate-stored}
 use Rattle.listing.proofs.Numbers.{less-one}
 use Rattle.levels.proofs.steps.back_a.Statement.{statement}

@@ -7,8 +7,7 @@ use borrow.Author.Needs.{needs}
 use lib.ListN.{length, take}
 use Rattle.listing.specs.Numbers.{before}
 use Rattle.listing.specs.Pattern.{tabulate}
-use Rattle.listing.specs.Steps.{unB}
-use Rattle.levels.specs.Entries.{byBackB}
+use Rattle.listing.specs.Steps.{byBackB, unB}
 use Rattle.levels.proofs.Filling.{tabulate-stored}
 use Rattle.listing.proofs.Numbers.{less-two}
 use Rattle.levels.proofs.steps.back_b.Statement.{statement}

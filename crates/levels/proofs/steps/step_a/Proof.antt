@@ -6,8 +6,7 @@ use native.Mathlib.Omega.{arith}
 use borrow.Author.Needs.{needs}
 use lib.ListN.{length, take}
 use Rattle.listing.specs.Pattern.{tabulate}
-use Rattle.listing.specs.Steps.{stepA}
-use Rattle.levels.specs.Entries.{byStepA}
+use Rattle.listing.specs.Steps.{byStepA, stepA}
 use Rattle.levels.proofs.Filling.{tabulate-stored}
 use Rattle.levels.proofs.steps.step_a.Statement.{statement}
 use Rattle.levels.proofs.steps.step_a.Tie as tie

@@ -6,8 +6,7 @@ use native.Mathlib.Omega.{arith}
 use borrow.Author.Needs.{needs}
 use lib.ListN.{length, take}
 use Rattle.listing.specs.Pattern.{tabulate}
-use Rattle.listing.specs.Steps.{stepB}
-use Rattle.levels.specs.Entries.{byStepB}
+use Rattle.listing.specs.Steps.{byStepB, stepB}
 use Rattle.levels.proofs.Filling.{tabulate-stored}
 use Rattle.levels.proofs.steps.step_b.Statement.{statement}
 use Rattle.levels.proofs.steps.step_b.Tie as tie

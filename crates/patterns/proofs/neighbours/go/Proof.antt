@@ -30,7 +30,7 @@ load-requires c κs = accepted-pattern mostPorts _ (sound (c .before)) .high
 place-requires : tie.Need-place-requires
 place-requires c κs =
     let whole = accepted-pattern mostPorts _ (sound (c .before .before)) in
-    (whole .high, rw (c .load .ensures) (whole .pattern))
+    (whole .high, rw (c .load .ensures) (whole .is))
 
 -- the place that was found is the rank
 ranked : (c : tie.After-place)

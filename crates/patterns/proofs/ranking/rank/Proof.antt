@@ -26,7 +26,7 @@ cast-place c = omega (arith, accepted-pattern mostPorts _ (sound (c .before)) .h
 place-requires : tie.Need-place-requires
 place-requires c κs =
     let whole = accepted-pattern mostPorts _ (sound (c .before)) in
-    (whole .high, rw (c .load .ensures) (whole .pattern))
+    (whole .high, rw (c .load .ensures) (whole .is))
 
 returns : tie.Need-returns
 returns c = rank-refused mostPorts _ _ _ (ap checkedTold (sym (c .before .f .given .1)) ∙ c .before .before .before .check .ensures)
