@@ -5,6 +5,7 @@ use words::Jack;
 use words::Place;
 use words::Reason;
 use words::Refusal;
+use words::nowhere;
 ghost use mathlib.Core.Path.{_≡_};
 ghost use mathlib.Core.Bool.{true, false};
 ghost use Prim.Native.Nat.{_≤_};
@@ -59,16 +60,10 @@ fn check_as(p: &[u8], pattern: bool) -> Checked
 {
     let n = p.len();
     if n < 2 {
-        return Checked::Refused(Refusal {
-            reason: Reason::Ports,
-            place: Place::Nowhere,
-        });
+        return Checked::Refused(nowhere(Reason::Ports));
     }
     if 20 < n {
-        return Checked::Refused(Refusal {
-            reason: Reason::Ports,
-            place: Place::Nowhere,
-        });
+        return Checked::Refused(nowhere(Reason::Ports));
     }
     match fault(p, pattern) {
         Fault::Sound => Checked::Sound,

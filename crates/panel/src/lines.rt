@@ -1,11 +1,12 @@
 // The lines of a campaign carried out on a lent panel.
 use crate::answers::Carried;
-use crate::lookups::out_of_shape;
 use carrying::carry_order;
 use checks::answers::Checked;
 use checks::checking::check_panel;
 use shapes::in_shape;
 use words::Line;
+use words::Reason;
+use words::nowhere;
 ghost use mathlib.Core.Path.{_≡_};
 ghost use Rattle.listing.specs.Limits.{mostPorts};
 ghost use Rattle.panel.specs.Calls.{carryOf, carryBytes};
@@ -25,7 +26,7 @@ pub fn carry(panel: &mut [u8], line: Line) -> Carried
                     carry_order(o, panel);
                     return Carried::Done;
                 }
-                Carried::Refused(out_of_shape())
+                Carried::Refused(nowhere(Reason::Shape))
             }
             Line::Mark(_, _) => Carried::Done,
             Line::End(_) => Carried::Done,

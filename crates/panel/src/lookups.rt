@@ -5,29 +5,16 @@ use checks::answers::Checked;
 use checks::checking::check_panel;
 use shapes::one_of;
 use words::Jack;
-use words::Place;
 use words::Port;
 use words::Reason;
-use words::Refusal;
+use words::nowhere;
 ghost use mathlib.Core.Path.{_≡_};
 ghost use Prim.Native.Nat.{_≤_};
 ghost use lib.ListN.{length};
 ghost use Rattle.listing.specs.Limits.{mostPorts};
-ghost use Rattle.words.specs.declared.Place.the-variants.{Nowhere};
-ghost use Rattle.words.specs.declared.Reason.the-variants.{Shape};
 ghost use Rattle.checks.specs.Faults.{seek};
 ghost use Rattle.panel.specs.Calls.{portOf, jackOf};
 ghost use Rattle.panel.specs.Answers.{lookedTold, foundTold};
-
-// The refusal of what is outside the panel or out of shape.
-pub fn out_of_shape() -> Refusal
-    ensures { λ r. ⌜ r ≡ record { reason = Shape; place = Nowhere } ⌝ }
-{
-    Refusal {
-        reason: Reason::Shape,
-        place: Place::Nowhere,
-    }
-}
 
 // The first jack that holds the port, and jack 0 if none does.
 fn holder(panel: &[u8], port: Port) -> Jack
@@ -54,7 +41,7 @@ pub fn port_at(panel: &[u8], jack: Jack) -> Looked
             if one_of(panel.len() as u8, jack.0) {
                 return Looked::Joined(Port(panel[(jack.0 - 1) as usize]));
             }
-            Looked::Refused(out_of_shape())
+            Looked::Refused(nowhere(Reason::Shape))
         }
     }
 }
@@ -69,7 +56,7 @@ pub fn jack_of(panel: &[u8], port: Port) -> Found
             if one_of(panel.len() as u8, port.0) {
                 return Found::Held(holder(panel, port));
             }
-            Found::Refused(out_of_shape())
+            Found::Refused(nowhere(Reason::Shape))
         }
     }
 }

@@ -1,7 +1,6 @@
 // Rank from pattern and pattern from rank.
 use crate::answers::Ranked;
 use crate::answers::Unranked;
-use crate::counting::nowhere;
 use checks::answers::Checked;
 use checks::checking::check;
 use levels::counts::count_of;
@@ -10,6 +9,7 @@ use levels::panels::store;
 use ranks::ranking::place;
 use ranks::unranking::pattern_of;
 use words::Reason;
+use words::nowhere;
 ghost use mathlib.Core.Path.{_≡_};
 ghost use Rattle.listing.specs.Limits.{mostPorts};
 ghost use Rattle.patterns.specs.Calls.{rankOf, unrankOf, unrankBytes};

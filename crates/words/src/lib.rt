@@ -1,4 +1,6 @@
 // The words of the bench as types. What each means, in numbers, stands in specs/.
+ghost use mathlib.Core.Path.{_≡_};
+ghost use Rattle.words.specs.declared.Place.the-variants.{Nowhere};
 
 // A jack of the panel, counted from 1.
 pub struct Jack(pub u8);
@@ -59,4 +61,14 @@ pub enum Place {
 pub struct Refusal {
     pub reason: Reason,
     pub place: Place,
+}
+
+// A refusal at no place that is said.
+pub fn nowhere(reason: Reason) -> Refusal
+    ensures { λ r. ⌜ r ≡ record { reason = reason; place = Nowhere } ⌝ }
+{
+    Refusal {
+        reason: reason,
+        place: Place::Nowhere,
+    }
 }

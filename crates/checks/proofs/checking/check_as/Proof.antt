@@ -2,6 +2,7 @@
 use mathlib.Core.Path.{sym, ap, _∙_}
 use borrow.Author.Needs.{needs}
 use Rattle.listing.specs.Limits.{mostPorts}
+use Rattle.words.specs.Meaning.{refusalOf}
 use Rattle.checks.specs.Calls.{checkAs}
 use Rattle.checks.specs.Answers.{faultIs}
 use Rattle.checks.proofs.Calls.{too-few, too-many, check-fault}
@@ -10,11 +11,11 @@ use Rattle.checks.proofs.checking.check_as.Tie as tie
 
 returns : tie.Need-returns
 unfolding checkAs
-returns c = sym (too-few _ _ _ (c .if1 .taken))
+returns c = ap refusalOf (c .nowhere .ensures) ∙ sym (too-few _ _ _ (c .before .if1 .taken))
 
 returns-2 : tie.Need-returns-2
 unfolding checkAs
-returns-2 c = sym (too-many _ _ _ (c .before .if1 .left) (c .if2 .taken))
+returns-2 c = ap refusalOf (c .nowhere2 .ensures) ∙ sym (too-many _ _ _ (c .before .before .if1 .left) (c .before .if2 .taken))
 
 -- the fault that the match found is the first
 returns-3 : tie.Need-returns-3
@@ -41,7 +42,9 @@ pub check-as-spec : {M : Type 1} → statement M
 check-as-spec =
     tie.close
     (tie.spec
+    (λ c κs. search needs)
     returns
+    (λ c κs. search needs)
     returns-2
     (λ c κs. search needs)
     (λ c. search needs)

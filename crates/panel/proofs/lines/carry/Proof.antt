@@ -38,7 +38,7 @@ returns-3 : tie.Need-returns-3
 returns-3 c =
     let t = c .before in
     let l = t .before .before .before in
-    rw (c .out-of-shape .ensures)
+    rw (c .nowhere .ensures)
     (carry-unfitting mostPorts _ (sound (l .before .before)) _ _ (l .line .given .1) (sym (t .before .in-shape .ensures) ∙ t .if1 .left))
 
 -- a mark and the end fit every panel, and the panel after them is the panel

@@ -39,7 +39,7 @@ returns-3 : tie.Need-returns-3
 unfolding jackOf
 returns-3 c =
     let t = c .before in
-    ap refusalOf (c .out-of-shape .ensures) ∙ unfitting mostPorts _ _ _ (sound (t .before .before)) (sym (t .before .one-of .ensures) ∙ t .if1 .left)
+    ap refusalOf (c .nowhere .ensures) ∙ unfitting mostPorts _ _ _ (sound (t .before .before)) (sym (t .before .one-of .ensures) ∙ t .if1 .left)
 
 pub jack-of-spec : {M : Type 1} → statement M
 jack-of-spec =

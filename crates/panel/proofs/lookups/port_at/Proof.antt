@@ -51,7 +51,7 @@ returns-3 : tie.Need-returns-3
 unfolding portOf
 returns-3 c =
     let t = c .before in
-    ap refusalOf (c .out-of-shape .ensures) ∙ unfitting mostPorts _ _ _ (sound (t .before .before)) (sym (t .before .one-of .ensures) ∙ t .if1 .left)
+    ap refusalOf (c .nowhere .ensures) ∙ unfitting mostPorts _ _ _ (sound (t .before .before)) (sym (t .before .one-of .ensures) ∙ t .if1 .left)
 
 pub port-at-spec : {M : Type 1} → statement M
 port-at-spec =
