@@ -17,7 +17,7 @@ ghost use Prim.Native.Nat.{_≤_, _<_};
 ghost use Rattle.listing.specs.Count.{count};
 ghost use Rattle.listing.specs.Limits.{mostPorts};
 ghost use Rattle.listing.specs.Orders.{inverse};
-ghost use Rattle.listing.specs.Neighbours.{nextMove, previousMove, previousRank};
+ghost use Rattle.listing.specs.Neighbours.{nextMove, previousMove, previousRank, moveBeside};
 ghost use Rattle.words.specs.Meaning.{moveOf};
 ghost use Rattle.moving.specs.Lead.{rowMove, RowIn};
 
@@ -89,4 +89,16 @@ pub fn previous_move(n: u8, r: u64) -> Move
     ensures { λ m. ⌜ moveOf m ≡ previousMove n r ⌝ }
 {
     inverse_of(next_move(n, rank_before(n, r)))
+}
+
+// The move from the pattern of rank r to the one beside it, the next or, backward, the previous.
+pub fn move_beside(n: u8, back: bool, r: u64) -> Move
+    requires { ⌜ (2 ≤ n) × (n ≤ mostPorts) × (r < count n) ⌝ }
+    ensures { λ m. ⌜ moveOf m ≡ moveBeside n back r ⌝ }
+{
+    if back {
+        previous_move(n, r)
+    } else {
+        next_move(n, r)
+    }
 }

@@ -17,7 +17,7 @@ ghost use Rattle.panel.specs.Calls.{portOf, jackOf};
 ghost use Rattle.panel.specs.Answers.{lookedTold, foundTold};
 
 // The first jack that holds the port, and jack 0 if none does.
-fn holder(panel: &[u8], port: Port) -> Jack
+pub fn holder(panel: &[u8], port: Port) -> Jack
     requires { ⌜ length (now panel) ≤ mostPorts ⌝ }
     ensures { λ r. ⌜ r .0 ≡ seek (now (panel .entry)) (port .0) 1 (length (now (panel .entry))) ⌝ }
 {

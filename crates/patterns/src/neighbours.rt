@@ -4,31 +4,13 @@ use carrying::carry_move;
 use checks::answers::Checked;
 use checks::checking::check;
 use levels::panels::load;
-use moving::neighbours::next_move;
-use moving::neighbours::previous_move;
+use moving::neighbours::move_beside;
 use ranks::ranking::place;
-use words::Move;
 ghost use mathlib.Core.Path.{_≡_};
 ghost use mathlib.Core.Bool.{true, false};
-ghost use Prim.Native.Nat.{_≤_, _<_};
-ghost use Rattle.listing.specs.Count.{count};
-ghost use Rattle.listing.specs.Neighbours.{moveBeside};
 ghost use Rattle.listing.specs.Limits.{mostPorts};
-ghost use Rattle.words.specs.Meaning.{moveOf};
 ghost use Rattle.patterns.specs.Calls.{besideOf, besideBytes};
 ghost use Rattle.patterns.specs.Answers.{movedTold};
-
-// The move from the pattern of rank r to the one beside it, the next or, backward, the previous.
-fn beside(n: u8, back: bool, r: u64) -> Move
-    requires { ⌜ (2 ≤ n) × (n ≤ mostPorts) × (r < count n) ⌝ }
-    ensures { λ m. ⌜ moveOf m ≡ moveBeside n back r ⌝ }
-{
-    if back {
-        previous_move(n, r)
-    } else {
-        next_move(n, r)
-    }
-}
 
 // The lent pattern becomes the one beside it.
 fn go(p: &mut [u8], back: bool) -> Moved
@@ -39,7 +21,7 @@ fn go(p: &mut [u8], back: bool) -> Moved
         Checked::Refused(f) => Moved::Refused(f),
         Checked::Sound => {
             let n = p.len() as u8;
-            let m = beside(n, back, place(load(p), n));
+            let m = move_beside(n, back, place(load(p), n));
             carry_move(m, p);
             Moved::By(m)
         }

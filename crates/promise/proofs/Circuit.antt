@@ -89,7 +89,7 @@ module _ (F : Family) (circuit : Circuit F) where
   stepped-listed back r h (suc k) = neighbour-listed back (stepped F back r k) (stepped-listed back r h k)
 
   -- i steps on from start: start + i, less the size where the end is passed; i steps back likewise
-  Round : ℕ → Bool → ℕ → ℕ → Type 0
+  unfoldable pub Round : ℕ → Bool → ℕ → ℕ → Type 0
   Round start false i r = (r ≡ start + i) ⊎ (r + F .size ≡ start + i)
   Round start true i r = (r + i ≡ start) ⊎ (r + i ≡ start + F .size)
 
@@ -124,6 +124,11 @@ module _ (F : Family) (circuit : Circuit F) where
       either x (λ a. either y (λ b. omega arith) (λ b. omega arith)) (λ a. either y (λ b. omega arith) (λ b. omega arith))
   round-rank start true i r q h k x y =
       either x (λ a. either y (λ b. omega arith) (λ b. omega arith)) (λ a. either y (λ b. omega arith) (λ b. omega arith))
+
+  -- so a listed rank that is i steps on, or back, is the one that the walk names
+  pub round-stepped : (start : ℕ) → start < F .size → (back : Bool) (i r : ℕ) → i < F .size → r < F .size → Round start back i r → r ≡ stepped F back start i
+  round-stepped start fits back i r h k x =
+      round-rank start back i r (stepped F back start i) k (stepped-listed back start fits i) x (round start fits back i h)
 
   -- every rank is named at some step
   round-place : (start : ℕ) → start < F .size → (back : Bool) (r : ℕ) → r < F .size → (i : ℕ) × (i < F .size) × Round start back i r

@@ -37,19 +37,19 @@ ranked : (c : tie.After-place)
     → let p = c .before .before .before .before .before .before .before .before .args .p .now in c .place .result ≡ rank (length p) p
 ranked c = c .place .ensures ∙ ap (rank _) (c .before .load .ensures)
 
-beside-requires : tie.Need-beside-requires
-beside-requires c κs =
+move-beside-requires : tie.Need-move-beside-requires
+move-beside-requires c κs =
     let e = sound (c .before .before .before) in
     let whole = accepted-pattern mostPorts _ e in
     (whole .low, whole .high, rw (ranked c) (rank-fits mostPorts _ e))
 
 -- the move that was found is the one beside the rank
-move-is : (c : tie.After-beside)
+move-is : (c : tie.After-move-beside)
     → let a = c .before .before .before .before .before .before .before .before .before .args in
-    moveOf (c .beside .result) ≡ moveBeside (length (a .p .now)) (a .back) (rank (length (a .p .now)) (a .p .now))
+    moveOf (c .move-beside .result) ≡ moveBeside (length (a .p .now)) (a .back) (rank (length (a .p .now)) (a .p .now))
 move-is c =
     let a = c .before .before .before .before .before .before .before .before .before .args in
-    c .beside .ensures ∙ ap (moveBeside (length (a .p .now)) (a .back)) (ranked (c .before))
+    c .move-beside .ensures ∙ ap (moveBeside (length (a .p .now)) (a .back)) (ranked (c .before))
 
 carry-move-requires : tie.Need-carry-move-requires
 carry-move-requires c κs =
@@ -77,7 +77,7 @@ go-spec =
     cast-n
     load-requires
     place-requires
-    beside-requires
+    move-beside-requires
     carry-move-requires
     (λ c. search needs)
     returns
