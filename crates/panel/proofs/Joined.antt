@@ -10,7 +10,7 @@ use lib.Dec.{eqb}
 use lib.ListN.{length}
 use borrow.Author.Tests.{eqb-true, eqb-false}
 use Rattle.listing.specs.Numbers.{Among}
-use Rattle.listing.specs.Pattern.{entry}
+use Rattle.listing.specs.Pattern.{entry, Permutation}
 use Rattle.listing.proofs.Numbers.{either, test}
 use Rattle.listing.proofs.Onto.{stands}
 use Rattle.words.specs.Told.{nowhere, Told, accepted, refused, then}
@@ -65,31 +65,31 @@ finds p v i (suc k) a h l e =
     let later = finds p v (suc i) k a (omega arith) (omega arith) e in
     rw t (omega arith, omega arith, later .2))
 
-module _ (most : ℕ) (p : List ℕ) (P : Panel most p) where
+module _ (p : List ℕ) (P : Permutation (length p) p) where
   -- every port of a panel has its jack
   held : (v : ℕ) → Among (length p) v → Among (length p) (seek p v 1 (length p)) × (entry p (seek p v 1 (length p)) ≡ v)
   held v h =
-      let s = stands (length p) p (P .is) v h in
+      let s = stands (length p) p P v h in
       let f = finds p v 1 (length p) (s .0) (s .1 .0) (omega (arith, s .1)) (s .2) in
       (omega arith, f .2)
 
   -- and no other
-  only-held : (v j : ℕ) → Among (length p) j → entry p j ≡ v → seek p v 1 (length p) ≡ j
+  pub only-held : (v j : ℕ) → Among (length p) j → entry p j ≡ v → seek p v 1 (length p) ≡ j
   only-held v j h e =
-      let f = held v (rw e at (P .is .ports j h)) in
-      P .is .apart (seek p v 1 (length p)) j (f .0) h (f .1 ∙ sym e)
+      let f = held v (rw e at (P .ports j h)) in
+      P .apart (seek p v 1 (length p)) j (f .0) h (f .1 ∙ sym e)
 
 pub jack-told : (most : ℕ) (p : List ℕ) (v j : ℕ) → accepted j ≡ jackOf most p v → Panel most p × Among (length p) j × (entry p j ≡ v)
 unfolding jackOf
 jack-told most p v j e =
     let t = told-fits most p (oneOf (length p) v) j (seek p v 1 (length p)) e in
-    let f = held most p (t .0) v (one-of (length p) v (t .1)) in
+    let f = held p (t .0 .is) v (one-of (length p) v (t .1)) in
     rw (t .2) (t .0, f .0, f .1)
 
 pub told-jack : (most : ℕ) (p : List ℕ) (j : ℕ) → Panel most p → Among (length p) j → accepted j ≡ jackOf most p (entry p j)
 unfolding jackOf
 told-jack most p j P h =
-    rw (only-held most p P (entry p j) j h refl)
+    rw (only-held p (P .is) (entry p j) j h refl)
     (fits-told most p (oneOf (length p) (entry p j)) j P (among-one (length p) (entry p j) (P .is .ports j h)))
 
 -- ---- the look-ups are inverse

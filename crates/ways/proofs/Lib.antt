@@ -1,0 +1,3 @@
+pub mod Walks
+pub mod Differ
+pub mod Orders

@@ -1,0 +1,28 @@
+-- `ways::panels::after_order` carries the order out on the front of the array.
+use mathlib.Core.Path.{sym, ap, _∙_}
+use mathlib.Core.List.{_++_}
+use lib.ListN.{take, drop}
+use lib.Seq.{length-take-le, take-at}
+use borrow.Author.Needs.{needs}
+use Rattle.listing.proofs.Panels.{length-carry}
+use Rattle.ways.proofs.panels.after_order.Statement.{statement}
+use Rattle.ways.proofs.panels.after_order.Tie as tie
+
+carry-order-requires : tie.Need-carry-order-requires
+carry-order-requires c κs = let a = c .before .args in rw (length-take-le (a .n) (a .p) (search needs)) (c .before .pre .1)
+
+returns : tie.Need-returns
+returns c =
+    let a = c .before .before .before .args in
+    let e = c .before .carry-order .ensures in
+    ap (λ r. take (a .n) (r ++ drop (a .n) (a .p))) e
+    ∙ take-at _ (drop (a .n) (a .p)) (a .n) (length-carry _ (take (a .n) (a .p)) ∙ length-take-le (a .n) (a .p) (search needs))
+
+pub after-order-spec : {M : Type 1} → statement M
+after-order-spec =
+    tie.close
+    (tie.spec
+    (λ c. search needs)
+    (λ c. sym (length-take-le (c .before .args .n) (c .before .args .p) (search needs)))
+    carry-order-requires
+    returns)
