@@ -1,0 +1,5 @@
+pub mod Listed
+pub mod Told
+pub mod Inverse
+pub mod Reader
+pub mod Spelling

@@ -1,0 +1,33 @@
+-- `lines::reading::mark_in` takes any two numbers.
+use mathlib.Core.Path.{sym, ap, _∙_}
+use borrow.Author.Needs.{needs}
+use Rattle.listing.specs.Limits.{mostPorts, largest64}
+use Rattle.words.specs.Meaning.{refusalOf}
+use Rattle.lines.specs.Format.{marking}
+use Rattle.lines.specs.Reading.{fitting}
+use Rattle.lines.specs.Answers.{twoIs}
+use Rattle.lines.proofs.Reader.{numbers-bad, numbers-good}
+use Rattle.lines.proofs.reading.mark_in.Statement.{statement}
+use Rattle.lines.proofs.reading.mark_in.Tie as tie
+
+returns : tie.Need-returns
+returns c =
+    let n = c .before .before .before in
+    ap refusalOf (c .nowhere .ensures) ∙ numbers-bad largest64 mostPorts marking _ (sym (ap twoIs (c .before .enum-told .given .1)) ∙ n .two-numbers .ensures)
+
+returns-2 : tie.Need-returns-2
+unfolding fitting
+returns-2 c =
+    let n = c .before .before .before in
+    numbers-good largest64 mostPorts marking _ _ (sym (ap twoIs (c .before .number .given .1)) ∙ n .two-numbers .ensures)
+
+pub mark-in-spec : {M : Type 1} → statement M
+mark-in-spec =
+    tie.close
+    (tie.spec
+    (λ c κs. search needs)
+    (λ c. search needs)
+    (λ c κs. search needs)
+    (λ c. search needs)
+    returns
+    returns-2)
