@@ -7,7 +7,7 @@ use mathlib.Core.Option.{Option, none, some, Option·map, bind}
 use Prim.Native.Nat.{ℕ, suc, _+_, _-_, _≤_, _<_}
 use native.Mathlib.Numerals.{add-one}
 use native.Mathlib.Omega.{arith}
-use lib.ListN.{length, take, drop, length-append, length-take, length-drop}
+use lib.ListN.{length, take, drop, length-append, length-take, length-drop, drop-of-length-le}
 use lib.Seq.{take-all, length-take-le}
 use Rattle.listing.proofs.Numbers.{either, below?, test}
 use Rattle.words.specs.Told.{Told, accepted, refused, nowhere, then}
@@ -33,9 +33,13 @@ found-inside b t k e =
     omega (arith, ap length w, length-append (take k t) (b ∷ drop (suc k) t), length-take k t)
 
 -- so does one that stands k after a place
-pub newline-inside : (t : List ℕ) (place k : ℕ) → some k ≡ firstOf newline (take (length t - place) (drop place t)) → place + k < length t
-newline-inside t place k e =
-    omega (arith, found-inside newline (drop place t) k (ap (firstOf newline) (sym (to-the-end t place)) ∙ sym e), length-drop place t)
+pub newline-inside : (t : List ℕ) (place k : ℕ) → some k ≡ firstOf newline (drop place t) → place + k < length t
+newline-inside t place k e = omega (arith, found-inside newline (drop place t) k (sym e), length-drop place t)
+
+-- past the end nothing is found
+pub none-past : (b : ℕ) (t : List ℕ) (place : ℕ) → length t ≤ place → none ≡ firstOf b (drop place t)
+unfolding firstOf
+none-past b t place h = rw (drop-of-length-le t h)
 
 -- a text that begins with a key is as long
 pub key-room : (word t : List ℕ) → true ≡ begins word t → length word ≤ length t
@@ -137,17 +141,16 @@ module _ (most jacks : ℕ) where
 
   module _ (t : List ℕ) (place : ℕ) where
     -- there is none from the place on
-    pub no-newline : none ≡ firstOf newline (take (length t - place) (drop place t)) → refused 11 nowhere ≡ readOf most jacks t place
+    pub no-newline : none ≡ firstOf newline (drop place t) → refused 11 nowhere ≡ readOf most jacks t place
     unfolding readOf
-    no-newline e = rw (← to-the-end t place, ← e)
+    no-newline e = rw (← e)
 
     -- the line before it decides
-    pub before-newline : (k : ℕ) (r : Told Line) → some k ≡ firstOf newline (take (length t - place) (drop place t))
-        → r ≡ lineIn most jacks (take (place + k - place) (drop place t)) → then r (λ l. accepted (l, place + k + 1)) ≡ readOf most jacks t place
+    pub before-newline : (k : ℕ) (r : Told Line) → some k ≡ firstOf newline (drop place t) → r ≡ lineIn most jacks (take (place + k - place) (drop place t))
+        → then r (λ l. accepted (l, place + k + 1)) ≡ readOf most jacks t place
     unfolding readOf
     before-newline k r e f =
         let to : place + k - place ≡ k = omega arith in
-        let e′ : firstOf newline (drop place t) ≡ some k = ap (firstOf newline) (sym (to-the-end t place)) ∙ sym e in
-        let n : length (take k (drop place t)) ≡ k = length-take-le k (drop place t) (omega (arith, found-inside newline (drop place t) k e′)) in
+        let n : length (take k (drop place t)) ≡ k = length-take-le k (drop place t) (omega (arith, found-inside newline (drop place t) k (sym e))) in
         let f′ : r ≡ lineIn most jacks (take k (drop place t)) = f ∙ ap (λ j. lineIn most jacks (take j (drop place t))) to in
-        rw (e′, ← f′, n)
+        rw (← e, ← f′, n)

@@ -5,7 +5,7 @@ use mathlib.Core.Path.{_≡_}
 use mathlib.Core.List.{List, _++_}
 use mathlib.Core.Option.{Option, none, some}
 use lib.ListN.{length, take, drop}
-use Rattle.words.specs.Told.{Told, accepted}
+use Rattle.words.specs.Told.{Told, accepted, refused, nowhere}
 use Rattle.words.specs.Meaning.{refusalOf}
 use Rattle.words.specs.declared.Line.{Line}
 use Rattle.lines.specs.Format.{Numbers}
@@ -15,7 +15,7 @@ use Rattle.lines.specs.declared.answers.Written.the-variants.{Bytes, Ref
 use Rattle.lines.specs.declared.answers.ReadLine.{ReadLine}
 use Rattle.lines.specs.declared.answers.ReadLine.the-variants.{Read, Refused as Read-Refused}
 use Rattle.lines.specs.declared.reading.Judged.{Judged}
-use Rattle.lines.specs.declared.reading.Judged.the-variants.{Good, Refused as Judged-Refused}
+use Rattle.lines.specs.declared.reading.Judged.the-variants.{Good, BadKey, BadNumbers, BadShape}
 use Rattle.lines.specs.declared.reading.First.{First}
 use Rattle.lines.specs.declared.reading.First.the-variants.{Number, Bad as First-Bad}
 use Rattle.lines.specs.declared.reading.Two.{Two}
@@ -38,7 +38,9 @@ readTold (Read-Refused f) = refusalOf f
 
 abbrev pub judgedTold : Judged → Told Line
 judgedTold (Good l) = accepted l
-judgedTold (Judged-Refused f) = refusalOf f
+judgedTold BadKey = refused 7 nowhere
+judgedTold BadNumbers = refused 8 nowhere
+judgedTold BadShape = refused 17 nowhere
 
 -- the first number of a text t, and the text from the place on that is answered
 abbrev pub firstIs : List ℕ → First → Option (ℕ × List ℕ)

@@ -10,19 +10,24 @@ use words::Jack;
 use words::Line;
 use words::Order;
 use words::Reason;
-use words::Refusal;
 use words::nowhere;
 ghost use mathlib.Core.Path.{_≡_};
+ghost use lib.ListN.{drop};
+ghost use Rattle.words.specs.Told.{accepted, then};
 ghost use Rattle.words.specs.declared.Line.the-variants.{Movement};
 ghost use Rattle.listing.specs.Limits.{mostPorts, largest64};
+ghost use Rattle.texts.specs.Parts.{newline, firstOf};
+ghost use Rattle.texts.specs.Answers.{foundIs};
 ghost use Rattle.lines.specs.Format.{swapping, turning, marking, ending, lineOf};
 ghost use Rattle.lines.specs.Reading.{numbersIn, fitting, numbersTold, lineIn, readOf};
 ghost use Rattle.lines.specs.Answers.{readTold, judgedTold, FirstOf, twoIs, threeIs};
 
-// A line without its newline, or why it is none.
+// A line without its newline, or why it is none: its key, its numbers, or its shape.
 pub enum Judged {
     Good(Line),
-    Refused(Refusal),
+    BadKey,
+    BadNumbers,
+    BadShape,
 }
 
 // The number before the first comma of a text, and the place after that comma.
@@ -89,7 +94,7 @@ fn fitted(o: Order) -> Judged
     if in_shape(20, o) {
         return Judged::Good(Line::Movement(o));
     }
-    Judged::Refused(nowhere(Reason::Shape))
+    Judged::BadShape
 }
 
 // The swap of two numbers: they are compared with 20 as they are, and then they are jacks.
@@ -97,10 +102,10 @@ fn swap_of(a: u64, b: u64) -> Judged
     ensures { λ r. ⌜ judgedTold r ≡ fitting mostPorts (lineOf swapping (a, b)) ⌝ }
 {
     if 20 < a {
-        return Judged::Refused(nowhere(Reason::Shape));
+        return Judged::BadShape;
     }
     if 20 < b {
-        return Judged::Refused(nowhere(Reason::Shape));
+        return Judged::BadShape;
     }
     fitted(Order::Swap(Jack(a as u8), Jack(b as u8)))
 }
@@ -110,13 +115,13 @@ fn turn_of(a: u64, b: u64, c: u64) -> Judged
     ensures { λ r. ⌜ judgedTold r ≡ fitting mostPorts (lineOf turning (a, (b, c))) ⌝ }
 {
     if 20 < a {
-        return Judged::Refused(nowhere(Reason::Shape));
+        return Judged::BadShape;
     }
     if 20 < b {
-        return Judged::Refused(nowhere(Reason::Shape));
+        return Judged::BadShape;
     }
     if 20 < c {
-        return Judged::Refused(nowhere(Reason::Shape));
+        return Judged::BadShape;
     }
     fitted(Order::Turn(Jack(a as u8), Jack(b as u8), Jack(c as u8)))
 }
@@ -126,7 +131,7 @@ fn swap_in(t: &[u8]) -> Judged
     ensures { λ r. ⌜ judgedTold r ≡ numbersTold largest64 mostPorts swapping (now (t .entry)) ⌝ }
 {
     match two_numbers(t) {
-        Two::Bad => Judged::Refused(nowhere(Reason::Number)),
+        Two::Bad => Judged::BadNumbers,
         Two::Numbers(a, b) => swap_of(a, b),
     }
 }
@@ -136,7 +141,7 @@ fn turn_in(t: &[u8]) -> Judged
     ensures { λ r. ⌜ judgedTold r ≡ numbersTold largest64 mostPorts turning (now (t .entry)) ⌝ }
 {
     match three_numbers(t) {
-        Three::Bad => Judged::Refused(nowhere(Reason::Number)),
+        Three::Bad => Judged::BadNumbers,
         Three::Numbers(a, b, c) => turn_of(a, b, c),
     }
 }
@@ -146,7 +151,7 @@ fn mark_in(t: &[u8]) -> Judged
     ensures { λ r. ⌜ judgedTold r ≡ numbersTold largest64 mostPorts marking (now (t .entry)) ⌝ }
 {
     match two_numbers(t) {
-        Two::Bad => Judged::Refused(nowhere(Reason::Number)),
+        Two::Bad => Judged::BadNumbers,
         Two::Numbers(number, rank) => Judged::Good(Line::Mark(number, rank)),
     }
 }
@@ -156,7 +161,7 @@ fn end_in(t: &[u8]) -> Judged
     ensures { λ r. ⌜ judgedTold r ≡ numbersTold largest64 mostPorts ending (now (t .entry)) ⌝ }
 {
     match read_number(t) {
-        Read::Bad => Judged::Refused(nowhere(Reason::Number)),
+        Read::Bad => Judged::BadNumbers,
         Read::Number(marks) => Judged::Good(Line::End(marks)),
     }
 }
@@ -177,21 +182,37 @@ fn line_in(t: &[u8]) -> Judged
     if has_key(t, b"end=") {
         return end_in(&t[4..]);
     }
-    Judged::Refused(nowhere(Reason::Key))
+    Judged::BadKey
+}
+
+// The first newline of a text from a place on: how far after the place.
+fn newline_from(text: &[u8], place: usize) -> Found
+    ensures { λ r. ⌜ foundIs r ≡ firstOf newline (drop place (now (text .entry))) ⌝ }
+{
+    if text.len() < place {
+        return Found::Nowhere;
+    }
+    find(&text[place..], 10)
+}
+
+// What is answered: the line and the place after its newline, or the refusal.
+fn answered(judged: Judged, next: usize) -> ReadLine
+    ensures { λ r. ⌜ readTold r ≡ then (judgedTold judged) (λ l. accepted (l, next)) ⌝ }
+{
+    match judged {
+        Judged::Good(line) => ReadLine::Read(line, next),
+        Judged::BadKey => ReadLine::Refused(nowhere(Reason::Key)),
+        Judged::BadNumbers => ReadLine::Refused(nowhere(Reason::Number)),
+        Judged::BadShape => ReadLine::Refused(nowhere(Reason::Shape)),
+    }
 }
 
 // The line that begins at a place of a text, and the place after its newline.
 pub fn read_line(text: &[u8], place: usize) -> ReadLine
     ensures { λ r. ⌜ readTold r ≡ readOf largest64 mostPorts (now (text .entry)) place ⌝ }
 {
-    if text.len() < place {
-        return ReadLine::Refused(nowhere(Reason::Ended));
-    }
-    match find(&text[place..], 10) {
+    match newline_from(text, place) {
         Found::Nowhere => ReadLine::Refused(nowhere(Reason::Ended)),
-        Found::At(k) => match line_in(&text[place..place + k]) {
-            Judged::Refused(f) => ReadLine::Refused(f),
-            Judged::Good(line) => ReadLine::Read(line, place + k + 1),
-        },
+        Found::At(k) => answered(line_in(&text[place..place + k]), place + k + 1),
     }
 }

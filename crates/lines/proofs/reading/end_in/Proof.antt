@@ -2,7 +2,6 @@
 use mathlib.Core.Path.{sym, ap, _∙_}
 use borrow.Author.Needs.{needs}
 use Rattle.listing.specs.Limits.{mostPorts, largest64}
-use Rattle.words.specs.Meaning.{refusalOf}
 use Rattle.decimals.specs.Answers.{readIs}
 use Rattle.lines.specs.Format.{ending}
 use Rattle.lines.specs.Reading.{numbersIn, fitting}
@@ -13,8 +12,8 @@ use Rattle.lines.proofs.reading.end_in.Tie as tie
 returns : tie.Need-returns
 unfolding numbersIn
 returns c =
-    let n = c .before .before .before in
-    ap refusalOf (c .nowhere .ensures) ∙ numbers-bad largest64 mostPorts ending _ (sym (ap readIs (c .before .enum-told .given .1)) ∙ n .read-number .ensures)
+    let n = c .before .before in
+    numbers-bad largest64 mostPorts ending _ (sym (ap readIs (c .enum-told .given .1)) ∙ n .read-number .ensures)
 
 returns-2 : tie.Need-returns-2
 unfolding fitting numbersIn
@@ -28,7 +27,6 @@ end-in-spec =
     (tie.spec
     (λ c κs. search needs)
     (λ c. search needs)
-    (λ c κs. search needs)
     (λ c. search needs)
     returns
     returns-2)

@@ -1,8 +1,7 @@
 -- `lines::reading::fitted` asks the shape on 20 jacks.
-use mathlib.Core.Path.{sym, ap, _∙_}
+use mathlib.Core.Path.{sym, _∙_}
 use borrow.Author.Needs.{needs}
 use Rattle.listing.specs.Limits.{mostPorts}
-use Rattle.words.specs.Meaning.{refusalOf}
 use Rattle.words.specs.declared.Line.the-variants.{Movement}
 use Rattle.lines.proofs.Reader.{fit-good, fit-bad}
 use Rattle.lines.proofs.reading.fitted.Statement.{statement}
@@ -13,8 +12,7 @@ returns c = fit-good mostPorts (Movement (c .before .before .args .o)) (sym (c .
 
 returns-2 : tie.Need-returns-2
 returns-2 c =
-    let s = c .before .before in
-    ap refusalOf (c .nowhere .ensures) ∙ fit-bad mostPorts (Movement (s .before .args .o)) (sym (s .in-shape .ensures) ∙ c .before .if1 .left)
+    let s = c .before in fit-bad mostPorts (Movement (s .before .args .o)) (sym (s .in-shape .ensures) ∙ c .if1 .left)
 
 pub fitted-spec : {M : Type 1} → statement M
 fitted-spec =
@@ -22,5 +20,4 @@ fitted-spec =
     (tie.spec
     (λ c κs. search needs)
     returns
-    (λ c κs. search needs)
     returns-2)

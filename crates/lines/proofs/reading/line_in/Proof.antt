@@ -1,9 +1,8 @@
 -- `lines::reading::line_in` tries the four keys. A text that begins with a key is at least as long.
-use mathlib.Core.Path.{_≡_, sym, ap, _∙_}
+use mathlib.Core.Path.{_≡_, refl, sym, _∙_}
 use mathlib.Core.Bool.{true, false}
 use borrow.Author.Needs.{needs}
 use Rattle.listing.specs.Limits.{mostPorts, largest64}
-use Rattle.words.specs.Meaning.{refusalOf}
 use Rattle.texts.specs.Parts.{begins}
 use Rattle.lines.specs.Format.{swapping, turning, marking, ending, key}
 use Rattle.lines.proofs.Reader.{key-room, line-swap, line-turn, line-mark, line-end, line-none}
@@ -80,11 +79,9 @@ returns-4 c =
 
 returns-5 : tie.Need-returns-5
 returns-5 c =
-    let i = c .before in
-    let m = i .before .before .before in
+    let m = c .before .before .before in
     let u = m .before .before .before in
-    line-none largest64 mostPorts _ _ (no-swap (u .before .before .before)) (no-turn u) (no-mark m) (sym (i .if4 .left) ∙ i .before .has-key4 .ensures)
-    (ap refusalOf (c .nowhere .ensures))
+    line-none largest64 mostPorts _ _ (no-swap (u .before .before .before)) (no-turn u) (no-mark m) (sym (c .if4 .left) ∙ c .before .has-key4 .ensures) refl
 
 pub line-in-spec : {M : Type 1} → statement M
 line-in-spec =
@@ -118,5 +115,4 @@ line-in-spec =
     (λ c. search needs)
     (λ c κs. search needs)
     returns-4
-    (λ c κs. search needs)
     returns-5)

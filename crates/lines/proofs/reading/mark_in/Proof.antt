@@ -2,7 +2,6 @@
 use mathlib.Core.Path.{sym, ap, _∙_}
 use borrow.Author.Needs.{needs}
 use Rattle.listing.specs.Limits.{mostPorts, largest64}
-use Rattle.words.specs.Meaning.{refusalOf}
 use Rattle.lines.specs.Format.{marking}
 use Rattle.lines.specs.Reading.{fitting}
 use Rattle.lines.specs.Answers.{twoIs}
@@ -12,8 +11,8 @@ use Rattle.lines.proofs.reading.mark_in.Tie as tie
 
 returns : tie.Need-returns
 returns c =
-    let n = c .before .before .before in
-    ap refusalOf (c .nowhere .ensures) ∙ numbers-bad largest64 mostPorts marking _ (sym (ap twoIs (c .before .enum-told .given .1)) ∙ n .two-numbers .ensures)
+    let n = c .before .before in
+    numbers-bad largest64 mostPorts marking _ (sym (ap twoIs (c .enum-told .given .1)) ∙ n .two-numbers .ensures)
 
 returns-2 : tie.Need-returns-2
 unfolding fitting
@@ -27,7 +26,6 @@ mark-in-spec =
     (tie.spec
     (λ c κs. search needs)
     (λ c. search needs)
-    (λ c κs. search needs)
     (λ c. search needs)
     returns
     returns-2)

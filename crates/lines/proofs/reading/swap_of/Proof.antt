@@ -1,26 +1,22 @@
 -- `lines::reading::swap_of`: no order with a jack above 20 is in shape, and any other number is a jack.
-use mathlib.Core.Path.{ap, _∙_}
 use native.Mathlib.Omega.{arith}
 use borrow.Author.Needs.{needs}
 use Rattle.listing.specs.Limits.{mostPorts}
-use Rattle.words.specs.Meaning.{refusalOf}
 use Rattle.lines.proofs.Reader.{unfit}
 use Rattle.lines.proofs.reading.swap_of.Statement.{statement}
 use Rattle.lines.proofs.reading.swap_of.Tie as tie
 
 returns : tie.Need-returns
-returns c = ap refusalOf (c .nowhere .ensures) ∙ unfit mostPorts _ (λ s. omega arith)
+returns c = unfit mostPorts _ (λ s. omega arith)
 
 returns-2 : tie.Need-returns-2
-returns-2 c = ap refusalOf (c .nowhere2 .ensures) ∙ unfit mostPorts _ (λ s. omega arith)
+returns-2 c = unfit mostPorts _ (λ s. omega arith)
 
 pub swap-of-spec : {M : Type 1} → statement M
 swap-of-spec =
     tie.close
     (tie.spec
-    (λ c κs. search needs)
     returns
-    (λ c κs. search needs)
     returns-2
     (λ c. search needs)
     (λ c. search needs)
