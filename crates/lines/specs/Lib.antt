@@ -1,4 +1,3 @@
 pub mod Format
 pub mod Reading
 pub mod Calls
-pub mod Answers

@@ -1,4 +1,1 @@
-// Order lines: written at the front of a lent buffer, and read from a place of a text. The format stands once, in specs/Format.antt.
-pub mod answers;
-pub mod reading;
-pub mod writing;
+// Laws only: order lines as text. The format stands once, in specs/Format.antt; what a text tells where a line is looked for in specs/Reading.antt.

@@ -1,0 +1,58 @@
+-- `writing::order_lines::write_line` refuses an order out of shape, then a line that there is no room for, and else puts the line at the front.
+use mathlib.Core.Path.{_≡_, sym, ap, _∙_}
+use native.Mathlib.Omega.{arith}
+use borrow.Author.Needs.{needs}
+use Rattle.listing.specs.Limits.{mostPorts}
+use Rattle.writing.proofs.Spelling.{spells-within, spells-line, write-unfit, write-room, write-front}
+use Rattle.writing.proofs.order_lines.write_line.Statement.{statement}
+use Rattle.writing.proofs.order_lines.write_line.Tie as tie
+
+and-part-requires : tie.Need-and-part-requires
+and-part-requires c κs = omega (arith, c .before .line-text .ensures .1)
+
+returns : tie.Need-returns
+returns c =
+    let p = c .before .before in
+    let l = p .before .before in
+    let a = l .before .before .before .before .args in
+    rw (c .nowhere .ensures)
+    (write-room mostPorts (a .line) (a .buf .now) (p .and-part .result) (sym (l .before .before .fits2 .ensures) ∙ l .before .if1 .taken)
+    (spells-line _ _ (a .line) (l .line-text .ensures .0) (p .and-part .ensures)) (c .before .if2 .taken))
+
+put-requires : tie.Need-put-requires
+put-requires c κs =
+    let p = c .before .before in
+    let l = p .before .before in
+    (spells-within _ _ (spells-line _ _ _ (l .line-text .ensures .0) (p .and-part .ensures)), c .before .if2 .left)
+
+returns-2 : tie.Need-returns-2
+returns-2 c =
+    let u = c .before .before in
+    let p = u .before .before .before in
+    let l = p .before .before in
+    let a = l .before .before .before .before .args in
+    let told = write-front mostPorts (a .line) (a .buf .now) (p .and-part .result) (sym (l .before .before .fits2 .ensures) ∙ l .before .if1 .taken)
+    (spells-line _ _ (a .line) (l .line-text .ensures .0) (p .and-part .ensures)) (u .before .before .if2 .left) in
+    (told .0, u .put .ensures ∙ told .1)
+
+returns-3 : tie.Need-returns-3
+returns-3 c =
+    let f = c .before .before in
+    let a = f .before .before .args in
+    rw (c .nowhere2 .ensures) (write-unfit mostPorts (a .line) (a .buf .now) (sym (f .fits2 .ensures) ∙ c .before .if1 .left))
+
+pub write-line-spec : {M : Type 1} → statement M
+write-line-spec =
+    tie.close
+    (tie.spec
+    (λ c κs. search needs)
+    (λ c κs. search needs)
+    (λ c. search needs)
+    and-part-requires
+    (λ c κs. search needs)
+    returns
+    put-requires
+    (λ c. search needs)
+    returns-2
+    (λ c κs. search needs)
+    returns-3)
