@@ -1,5 +1,6 @@
 -- Lines read and lines written are inverse, both ways: a written line is read as that line wherever it stands (`read-written`), and a text that reads as a
--- line is the text that the line is written as (`written-read`). So a text begins with one line at most (`one-line`). At a place at or past the end: 11 (`read-past`).
+-- line is the text that the line is written as (`written-read`). So a text begins with one line at most (`one-line`), and a line has one text.
+-- At a place at or past the end 11 is told (`read-past`).
 -- Assumes nothing.
 use mathlib.Core.Path.{_≡_, refl, sym, ap, _∙_, subst}
 use mathlib.Core.Bool.{Bool, true, false, cond}
@@ -20,7 +21,8 @@ use Rattle.words.proofs.Shape.{shaped-shape, shape-shaped}
 use Rattle.texts.specs.Parts.{newline, firstOf, begins, Parts, cut, after}
 use Rattle.texts.proofs.Cuts.{first-append, cut-joined, cut-parts}
 use Rattle.texts.proofs.Keys.{key-after}
-use Rattle.lines.specs.Format.{Kind, swapping, turning, marking, ending, key, commas, Numbers, AllUpTo, kindOf, numbersOf, lineOf, listed, keyText, unended, lineText}
+use Rattle.lines.specs.Format.{Kind, swapping, turning, marking, ending, key, commas, Numbers, AllUpTo, listed}
+use Rattle.lines.specs.Format.{kindOf, numbersOf, lineOf, keyText, unended, lineText}
 use Rattle.lines.specs.Reading.{numbersIn, lineFits, LineFits, Proper, fitting, orRefused, numbersTold, keyed, lineIn, readOf}
 use Rattle.lines.proofs.Listed.{listed-clear, numbers-of-listed, listed-of-numbers}
 use Rattle.lines.proofs.Told.{not-both, same-accepted, then-accepted, there}
@@ -194,7 +196,10 @@ module _ (most jacks : ℕ) where
       let on : place + length (lineText l) ≡ next = omega (arith, text-length l, ap length (r .0)) in
       let all : drop place t ≡ lineText l ++ p .rest = w ∙ ap (λ s. s ++ (newline ∷ p .rest)) (r .0) ∙ sym (text-append l (p .rest)) in
       let end : drop next t ≡ p .rest =
-      ap (λ n. drop n t) (sym on) ∙ sym (drop-drop (length (lineText l)) place t) ∙ ap (drop (length (lineText l))) all ∙ drop-append-seam (lineText l) (p .rest) in
+      ap (λ n. drop n t) (sym on)
+      ∙ sym (drop-drop (length (lineText l)) place t)
+      ∙ ap (drop (length (lineText l))) all
+      ∙ drop-append-seam (lineText l) (p .rest) in
       record {
         text = all ∙ ap (λ s. lineText l ++ s) (sym end);
         on = on;

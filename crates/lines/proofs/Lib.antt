@@ -1,3 +1,5 @@
 pub mod Listed
 pub mod Told
 pub mod Inverse
+pub mod Longest
+pub mod Cases

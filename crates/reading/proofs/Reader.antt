@@ -96,7 +96,8 @@ module _ (most jacks : ℕ) where
   numbers-bad k v e = rw (← e)
 
   -- numbers are judged as the line that they make
-  pub numbers-good : (k : Kind) (v : List ℕ) (x : Numbers (commas k)) → some x ≡ numbersIn most (commas k) v → fitting jacks (lineOf k x) ≡ numbersTold most jacks k v
+  pub numbers-good : (k : Kind) (v : List ℕ) (x : Numbers (commas k)) → some x ≡ numbersIn most (commas k) v
+      → fitting jacks (lineOf k x) ≡ numbersTold most jacks k v
   unfolding numbersTold
   numbers-good k v x e = rw (← e)
 

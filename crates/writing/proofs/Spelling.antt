@@ -98,8 +98,8 @@ unfolding unended keyText
 spells-swap s r o a b e h k = rw e (spells-two s r (key swapping) (a .0) (b .0) h k)
 
 -- a turn
-pub spells-turn : (s m r : Spelled) (o : Order) (a b c : Jack) → o ≡ Turn a b c → Spells s (key turning ++ digitsOf (a .0)) → Grown s (comma ∷ digitsOf (b .0)) m
-    → Grown m (comma ∷ digitsOf (c .0)) r → Spells r (unended (Movement o))
+pub spells-turn : (s m r : Spelled) (o : Order) (a b c : Jack) → o ≡ Turn a b c → Spells s (key turning ++ digitsOf (a .0))
+    → Grown s (comma ∷ digitsOf (b .0)) m → Grown m (comma ∷ digitsOf (c .0)) r → Spells r (unended (Movement o))
 unfolding unended keyText
 spells-turn s m r o a b c e h k g = rw e (spells-three m r (key turning) (a .0) (b .0) (c .0) (spells-two s m (key turning) (a .0) (b .0) h k) g)
 

@@ -15,7 +15,7 @@ and-number-requires c κs = omega (arith, c .and-part .ensures .len, c .before .
 returns : tie.Need-returns
 returns c =
     let a = c .before .before .before .args in
-    grown-twice (a .s) (c .before .and-part .result) (c .and-number .result) (comma ∷ []) (digitsOf (a .n)) (c .before .and-part .ensures) (c .and-number .ensures)
+    let p = c .before .and-part in grown-twice (a .s) (p .result) (c .and-number .result) (comma ∷ []) (digitsOf (a .n)) (p .ensures) (c .and-number .ensures)
 
 pub and-next-spec : {M : Type 1} → statement M
 and-next-spec = tie.close (tie.spec (λ c. search needs) (λ c κs. search needs) and-number-requires returns)

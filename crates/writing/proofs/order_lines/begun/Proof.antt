@@ -16,7 +16,8 @@ returns : tie.Need-returns
 returns c =
     let a = c .before .before .before .args in
     let p = c .before .and-part in
-    spells-more (p .result) (c .and-number .result) (a .key .now) (digitsOf (a .n)) (spells-first _ (p .result) (a .key .now) refl (p .ensures)) (c .and-number .ensures)
+    let first = spells-first _ (p .result) (a .key .now) refl (p .ensures) in
+    spells-more (p .result) (c .and-number .result) (a .key .now) (digitsOf (a .n)) first (c .and-number .ensures)
 
 pub begun-spec : {M : Type 1} → statement M
 begun-spec = tie.close (tie.spec (λ c κs. search needs) and-number-requires returns)
