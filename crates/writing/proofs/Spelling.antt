@@ -1,8 +1,8 @@
 -- Texts put together: a copy goes on byte by byte, a part is put after what is spelled, numbers are put after a key, and a text at the front of a buffer.
--- At the end, what the writer tells.
+-- At the end, what is told of a line that is spelled.
 -- Assumes nothing.
 use mathlib.Core.Path.{_≡_, refl, sym, ap, _∙_, subst}
-use mathlib.Core.Bool.{true, false}
+use mathlib.Core.Bool.{true}
 use mathlib.Core.List.{List, [], _∷_, _++_, append-assoc}
 use Prim.Native.Nat.{ℕ, _+_, _-_, _≤_, _<_}
 use native.Mathlib.Nat.{zero-add}
@@ -10,7 +10,6 @@ use native.Mathlib.Numerals.{add-one}
 use native.Mathlib.Omega.{arith}
 use lib.ListN.{length, take, drop, set, getD, replicate, length-append, length-take}
 use lib.Seq.{paste, paste-suc, take-paste, take-length}
-use borrow.Author.Tests.{le-leb, lt-leb}
 use Rattle.decimals.specs.Decimal.{digitsOf}
 use Rattle.decimals.specs.Answers.{TextOf}
 use Rattle.decimals.specs.declared.Text.{Text}
@@ -23,8 +22,9 @@ use Rattle.words.specs.declared.Order.the-variants.{Swap, Turn}
 use Rattle.words.specs.declared.Line.{Line}
 use Rattle.words.specs.declared.Line.the-variants.{Movement, Mark, End}
 use Rattle.lines.specs.Format.{swapping, turning, marking, ending, key, listed, keyText, unended, lineText}
-use Rattle.lines.specs.Reading.{lineFits, fitting}
-use Rattle.lines.specs.Calls.{roomOf, writeOf, writeBytes}
+use Rattle.lines.specs.Reading.{lineFits}
+use Rattle.lines.specs.Calls.{writeOf, writeBytes}
+use Rattle.lines.proofs.Written.{write-room, write-front}
 use Rattle.writing.specs.Answers.{Spells, Grown}
 use Rattle.writing.specs.declared.order_lines.Spelled.{Spelled}
 
@@ -138,24 +138,14 @@ atFront d s n = take n s ++ drop n d
 pub front-on : (d s : List ℕ) (j : ℕ) → j < length d → j < length s → set (atFront d s j) j (getD s j 0) ≡ atFront d s (j + 1)
 front-on d s j h l = rw (zero-add j, zero-add (j + 1)) at (copied-on d 0 s j (omega arith) l)
 
--- ---- what the writer tells
+-- ---- what is told of a line that is spelled
 
-module _ (jacks : ℕ) (l : Line) (buf : List ℕ) where
-  -- an order out of shape is refused first
-  pub write-unfit : lineFits jacks l ≡ false → (refused 17 nowhere ≡ writeOf jacks l buf) × (buf ≡ writeBytes jacks l buf)
-  unfolding writeOf writeBytes fitting
-  write-unfit e = rw e (refl, refl)
+module _ (jacks : ℕ) (l : Line) (buf : List ℕ) (s : Spelled) (fit : lineFits jacks l ≡ true) (spelt : Spells s (lineText l)) where
+  -- the buffer has no room for it
+  pub spelled-room : length buf < s .len → (refused 2 nowhere ≡ writeOf jacks l buf) × (buf ≡ writeBytes jacks l buf)
+  spelled-room h = write-room jacks l buf fit (omega (arith, spelt .len))
 
-  -- then a line that the buffer has no room for
-  pub write-room : (s : Spelled) → lineFits jacks l ≡ true → Spells s (lineText l) → length buf < s .len
-      → (refused 2 nowhere ≡ writeOf jacks l buf) × (buf ≡ writeBytes jacks l buf)
-  unfolding writeOf writeBytes fitting roomOf
-  write-room s e h k = rw (e, lt-leb (length (lineText l)) (length buf) (omega (arith, h .len))) (refl, refl)
-
-  -- any other is written at the front
-  pub write-front : (s : Spelled) → lineFits jacks l ≡ true → Spells s (lineText l) → s .len ≤ length buf
+  -- it is put at the front
+  pub spelled-front : s .len ≤ length buf
       → (accepted (s .len) ≡ writeOf jacks l buf) × (take (s .len) (s .bytes) ++ drop (s .len) buf ≡ writeBytes jacks l buf)
-  unfolding writeOf writeBytes fitting roomOf
-  write-front s e h k =
-      rw (e, le-leb (length (lineText l)) (length buf) (omega (arith, h .len)))
-      (ap accepted (h .len), ap (λ x. x ++ drop (s .len) buf) (h .front) ∙ ap (λ n. lineText l ++ drop n buf) (h .len))
+  spelled-front h = rw (spelt .front, spelt .len) (write-front jacks l buf fit (omega (arith, spelt .len)))

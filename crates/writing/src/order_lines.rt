@@ -119,10 +119,10 @@ fn put(s: Spelled, buf: &mut [u8])
 {
     let n = s.len;
     let bytes = s.bytes;
-    let mut i: usize = 0;
-    while i < n {
-        buf[i] = bytes[i];
-        i += 1;
+    let mut at: usize = 0;
+    while at < n {
+        buf[at] = bytes[at];
+        at += 1;
     }
 }
 

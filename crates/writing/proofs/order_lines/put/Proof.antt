@@ -7,12 +7,12 @@ use Rattle.writing.proofs.Spelling.{atFront, front-on}
 use Rattle.writing.proofs.order_lines.put.Statement.{statement}
 use Rattle.writing.proofs.order_lines.put.Tie as tie
 
--- i bytes of the text are at the front
+-- `at` bytes of the text are at the front
 abbrev Inv-loop : tie.InvT-loop
-Inv-loop buf₀ n bytes i₀ buf i = (i ≤ n) × (length bytes ≡ 47) × (length buf ≡ length buf₀) × (buf ≡ atFront buf₀ bytes i)
+Inv-loop buf₀ n bytes at₀ buf at = (at ≤ n) × (length bytes ≡ 47) × (length buf ≡ length buf₀) × (buf ≡ atFront buf₀ bytes at)
 
 abbrev μ-loop : tie.MeasureT-loop
-μ-loop buf₀ n bytes i₀ buf i = n - i
+μ-loop buf₀ n bytes at₀ buf at = n - at
 
 loop-again : tie.Need-loop-again Inv-loop μ-loop
 loop-again c =
@@ -21,15 +21,15 @@ loop-again c =
       search needs,
       l .loop .inv .1,
       search needs,
-      ap (λ b. set b (l .loop .i) (getD (a .s .bytes) (l .loop .i) 0)) (l .loop .inv .3)
-          ∙ front-on (a .buf .now) (a .s .bytes) (l .loop .i) (search needs) (search needs),
+      ap (λ b. set b (l .loop .at) (getD (a .s .bytes) (l .loop .at) 0)) (l .loop .inv .3)
+          ∙ front-on (a .buf .now) (a .s .bytes) (l .loop .at) (search needs) (search needs),
     )
 
 returns : tie.Need-returns Inv-loop μ-loop
 returns c =
     let l = c .before in
     let a = l .before .before .args in
-    let all : l .loop .i ≡ a .s .len = search needs in
+    let all : l .loop .at ≡ a .s .len = search needs in
     l .loop .inv .3 ∙ ap (atFront (a .buf .now) (a .s .bytes)) all
 
 pub put-spec : {M : Type 1} → statement M

@@ -3,7 +3,8 @@ use mathlib.Core.Path.{_≡_, sym, ap, _∙_}
 use native.Mathlib.Omega.{arith}
 use borrow.Author.Needs.{needs}
 use Rattle.listing.specs.Limits.{mostPorts}
-use Rattle.writing.proofs.Spelling.{spells-within, spells-line, write-unfit, write-room, write-front}
+use Rattle.lines.proofs.Written.{write-unfit}
+use Rattle.writing.proofs.Spelling.{spells-within, spells-line, spelled-room, spelled-front}
 use Rattle.writing.proofs.order_lines.write_line.Statement.{statement}
 use Rattle.writing.proofs.order_lines.write_line.Tie as tie
 
@@ -16,7 +17,7 @@ returns c =
     let l = p .before .before in
     let a = l .before .before .before .before .args in
     rw (c .nowhere .ensures)
-    (write-room mostPorts (a .line) (a .buf .now) (p .and-part .result) (sym (l .before .before .fits2 .ensures) ∙ l .before .if1 .taken)
+    (spelled-room mostPorts (a .line) (a .buf .now) (p .and-part .result) (sym (l .before .before .fits2 .ensures) ∙ l .before .if1 .taken)
     (spells-line _ _ (a .line) (l .line-text .ensures .0) (p .and-part .ensures)) (c .before .if2 .taken))
 
 put-requires : tie.Need-put-requires
@@ -31,7 +32,7 @@ returns-2 c =
     let p = u .before .before .before in
     let l = p .before .before in
     let a = l .before .before .before .before .args in
-    let told = write-front mostPorts (a .line) (a .buf .now) (p .and-part .result) (sym (l .before .before .fits2 .ensures) ∙ l .before .if1 .taken)
+    let told = spelled-front mostPorts (a .line) (a .buf .now) (p .and-part .result) (sym (l .before .before .fits2 .ensures) ∙ l .before .if1 .taken)
     (spells-line _ _ (a .line) (l .line-text .ensures .0) (p .and-part .ensures)) (u .before .before .if2 .left) in
     (told .0, u .put .ensures ∙ told .1)
 
