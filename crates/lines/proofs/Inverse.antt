@@ -1,13 +1,13 @@
 -- Lines read and lines written are inverse, both ways: a written line is read as that line wherever it stands (`read-written`), and a text that reads as a
 -- line is the text that the line is written as (`written-read`). So a text begins with one line at most (`one-line`), and a line has one text.
--- At a place at or past the end 11 is told (`read-past`).
+-- At a place at or past the end 11 is told (`read-past`). Every line of a campaign is one of these (`campaign-proper`).
 -- Assumes nothing.
 use mathlib.Core.Path.{_≡_, refl, sym, ap, _∙_, subst}
 use mathlib.Core.Bool.{Bool, true, false, cond}
 use mathlib.Core.Logic.{_⊎_, inl, inr}
 use mathlib.Core.List.{List, [], _∷_, _++_}
 use mathlib.Core.Option.{Option, none, some}
-use Prim.Native.Nat.{ℕ, suc, _+_, _≤_}
+use Prim.Native.Nat.{ℕ, _+_, _≤_}
 use native.Mathlib.Omega.{arith}
 use lib.ListN.{length, drop, length-append, length-drop, drop-of-length-le}
 use lib.Seq.{append-snoc, drop-append-seam, drop-drop}
@@ -18,12 +18,13 @@ use Rattle.words.specs.declared.Order.the-variants.{Swap, Turn}
 use Rattle.words.specs.declared.Line.{Line}
 use Rattle.words.specs.declared.Line.the-variants.{Movement, Mark, End}
 use Rattle.words.proofs.Shape.{shaped-shape, shape-shaped}
-use Rattle.texts.specs.Parts.{newline, firstOf, begins, Parts, cut, after}
+use Rattle.texts.specs.Parts.{newline, firstOf, begins, cut, after}
 use Rattle.texts.proofs.Cuts.{first-append, cut-joined, cut-parts}
 use Rattle.texts.proofs.Keys.{key-after}
 use Rattle.lines.specs.Format.{Kind, swapping, turning, marking, ending, key, commas, Numbers, AllUpTo, listed}
 use Rattle.lines.specs.Format.{kindOf, numbersOf, lineOf, keyText, unended, lineText}
 use Rattle.lines.specs.Reading.{numbersIn, lineFits, LineFits, Proper, fitting, orRefused, numbersTold, keyed, lineIn, readOf}
+use Rattle.lines.specs.Campaign.{OfCampaign}
 use Rattle.lines.proofs.Listed.{listed-clear, numbers-of-listed, listed-of-numbers}
 use Rattle.lines.proofs.Told.{not-both, same-accepted, then-accepted, there}
 
@@ -214,6 +215,16 @@ module _ (most jacks : ℕ) where
 
   -- ---- at or past the end
 
+  -- no newline is there
   pub read-past : (t : List ℕ) (place : ℕ) → length t ≤ place → readOf most jacks t place ≡ refused 11 nowhere
   unfolding readOf firstOf
   read-past t place h = rw (drop-of-length-le t h)
+
+-- ---- what a campaign writes
+
+-- every line of a campaign is one that the device writes and reads
+pub campaign-proper : (jacks most ranks : ℕ) → jacks ≤ most → ranks ≤ most → (l : Line) → OfCampaign jacks most ranks l → Proper most jacks l
+campaign-proper jacks most ranks j r (Movement (Swap a b)) h = record { fits = h; numbers = (omega arith, omega arith) }
+campaign-proper jacks most ranks j r (Movement (Turn a b c)) h = record { fits = h; numbers = (omega arith, (omega arith, omega arith)) }
+campaign-proper jacks most ranks j r (Mark m k) h = record { fits = tt; numbers = (h .0, omega arith) }
+campaign-proper jacks most ranks j r (End m) h = record { fits = tt; numbers = h }

@@ -9,7 +9,7 @@ use native.Mathlib.Omega.{arith}
 use Rattle.decimals.specs.Decimal.{digitsOf, numberUpTo}
 use Rattle.decimals.proofs.Limits.{number-up-to, digits-up-to}
 use Rattle.decimals.proofs.Shape.{digits-decimal}
-use Rattle.texts.specs.Parts.{newline, comma, firstOf, Parts, cut}
+use Rattle.texts.specs.Parts.{newline, comma, firstOf, cut}
 use Rattle.texts.proofs.Cuts.{first-none, first-append, cut-joined, cut-parts}
 use Rattle.lines.specs.Format.{Numbers, AllUpTo, listed}
 use Rattle.lines.specs.Reading.{numberBefore, numbersIn}

@@ -2,15 +2,14 @@
 -- (`refused-kept`), and an accepted one leaves the line and then the bytes that were there (`line-in-front`, `rest-kept`).
 -- Assumes nothing.
 use mathlib.Core.Path.{_≡_, refl, sym, ap, _∙_}
-use mathlib.Core.Bool.{Bool, true, false}
+use mathlib.Core.Bool.{true, false}
 use mathlib.Core.List.{List, _++_}
 use Prim.Native.Nat.{ℕ, _≤_, _<_}
-use native.Mathlib.Omega.{arith}
-use lib.ListN.{length, take, drop, length-append, length-drop}
+use lib.ListN.{length, take, drop}
 use lib.Seq.{take-at, drop-at}
 use borrow.Author.Tests.{le-leb, lt-leb}
 use Rattle.listing.proofs.Numbers.{either, below?, test}
-use Rattle.words.specs.Told.{Spot, nowhere, Told, accepted, refused, leaves}
+use Rattle.words.specs.Told.{Spot, nowhere, accepted, refused}
 use Rattle.words.specs.declared.Line.{Line}
 use Rattle.lines.specs.Format.{lineText}
 use Rattle.lines.specs.Reading.{lineFits, fitting}

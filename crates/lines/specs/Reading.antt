@@ -13,7 +13,7 @@ use Rattle.words.specs.Shape.{shaped}
 use Rattle.words.specs.declared.Line.{Line}
 use Rattle.words.specs.declared.Line.the-variants.{Movement, Mark, End}
 use Rattle.decimals.specs.Decimal.{numberUpTo}
-use Rattle.texts.specs.Parts.{newline, comma, Parts, cut, after}
+use Rattle.texts.specs.Parts.{newline, comma, cut, after}
 use Rattle.lines.specs.Format.{Kind, swapping, turning, marking, ending, key, commas, Numbers, AllUpTo, kindOf, numbersOf, lineOf}
 
 -- ---- form and count of numbers

@@ -4,8 +4,6 @@ use mathlib.Core.Path.{_≡_, sym, ap, _∙_}
 use mathlib.Core.List.{List}
 use Prim.Native.Nat.{ℕ}
 use Rattle.listing.specs.Limits.{mostPorts, largest64}
-use Rattle.words.specs.Told.{accepted}
-use Rattle.words.specs.declared.Line.{Line}
 use Rattle.words.proofs.Once.{refusal-once}
 use Rattle.lines.specs.Reading.{readOf}
 use Rattle.lines.proofs.Told.{same-accepted}

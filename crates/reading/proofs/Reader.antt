@@ -1,8 +1,8 @@
 -- What the reader may conclude at each step: of the byte that it found, the numbers that it read, the shape, the key, and the newline.
 -- Assumes nothing.
-use mathlib.Core.Path.{_≡_, refl, sym, ap, _∙_}
-use mathlib.Core.Bool.{Bool, true, false, true≢false}
-use mathlib.Core.List.{List, _∷_, _++_}
+use mathlib.Core.Path.{_≡_, sym, ap, _∙_}
+use mathlib.Core.Bool.{true, false, true≢false}
+use mathlib.Core.List.{List, _∷_}
 use mathlib.Core.Option.{Option, none, some, Option·map, bind}
 use Prim.Native.Nat.{ℕ, suc, _+_, _-_, _≤_, _<_}
 use native.Mathlib.Numerals.{add-one}
@@ -13,11 +13,11 @@ use Rattle.listing.proofs.Numbers.{either, below?, test}
 use Rattle.words.specs.Told.{Told, accepted, refused, nowhere, then}
 use Rattle.words.specs.declared.Line.{Line}
 use Rattle.decimals.specs.Decimal.{numberUpTo}
-use Rattle.texts.specs.Parts.{newline, comma, firstOf, begins, Parts, around, cut, after}
+use Rattle.texts.specs.Parts.{newline, comma, firstOf, begins, around, after}
 use Rattle.texts.proofs.Cuts.{cut-parts}
 use Rattle.texts.proofs.Keys.{begins-short}
 use Rattle.lines.specs.Format.{Kind, swapping, turning, marking, ending, key, commas, Numbers, lineOf}
-use Rattle.lines.specs.Reading.{numberBefore, numbersIn, lineFits, LineFits, fitting, orRefused, numbersTold, keyed, lineIn, readOf}
+use Rattle.lines.specs.Reading.{numberBefore, numbersIn, lineFits, LineFits, fitting, numbersTold, keyed, lineIn, readOf}
 use Rattle.lines.proofs.Inverse.{passes-fits}
 
 -- ---- parts of a text

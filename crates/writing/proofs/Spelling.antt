@@ -1,7 +1,7 @@
 -- Texts put together: a copy goes on byte by byte, a part is put after what is spelled, numbers are put after a key, and a text at the front of a buffer.
 -- At the end, what is told of a line that is spelled.
 -- Assumes nothing.
-use mathlib.Core.Path.{_≡_, refl, sym, ap, _∙_, subst}
+use mathlib.Core.Path.{_≡_, sym, ap, _∙_, subst}
 use mathlib.Core.Bool.{true}
 use mathlib.Core.List.{List, [], _∷_, _++_, append-assoc}
 use Prim.Native.Nat.{ℕ, _+_, _-_, _≤_, _<_}

@@ -12,6 +12,9 @@ returns c = unfit mostPorts _ (λ s. omega arith)
 returns-2 : tie.Need-returns-2
 returns-2 c = unfit mostPorts _ (λ s. omega arith)
 
+returns-3 : tie.Need-returns-3
+returns-3 c = c .fitted .ensures
+
 pub swap-of-spec : {M : Type 1} → statement M
 swap-of-spec =
     tie.close
@@ -21,4 +24,4 @@ swap-of-spec =
     (λ c. search needs)
     (λ c. search needs)
     (λ c κs. search needs)
-    (λ c. search needs))
+    returns-3)

@@ -15,6 +15,9 @@ returns-2 c = unfit mostPorts _ (λ s. omega arith)
 returns-3 : tie.Need-returns-3
 returns-3 c = unfit mostPorts _ (λ s. omega arith)
 
+returns-4 : tie.Need-returns-4
+returns-4 c = c .fitted .ensures
+
 pub turn-of-spec : {M : Type 1} → statement M
 turn-of-spec =
     tie.close
@@ -26,4 +29,4 @@ turn-of-spec =
     (λ c. search needs)
     (λ c. search needs)
     (λ c κs. search needs)
-    (λ c. search needs))
+    returns-4)

@@ -1,5 +1,4 @@
 -- `writing::order_lines::and_next` puts a comma and then the number after the text.
-use mathlib.Core.Path.{refl, ap, _∙_}
 use mathlib.Core.List.{[], _∷_}
 use native.Mathlib.Omega.{arith}
 use borrow.Author.Needs.{needs}

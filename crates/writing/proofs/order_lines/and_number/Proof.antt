@@ -1,5 +1,5 @@
 -- `writing::order_lines::and_number` puts the number's digits after the text: they are the front of the number's own text.
-use mathlib.Core.Path.{_≡_, sym, ap, subst, _∙_}
+use mathlib.Core.Path.{sym, ap, subst}
 use native.Mathlib.Omega.{arith}
 use lib.ListN.{length}
 use lib.Seq.{length-take-le}

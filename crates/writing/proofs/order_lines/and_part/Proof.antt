@@ -1,7 +1,6 @@
 -- `writing::order_lines::and_part` copies the part byte by byte behind what is there.
 use mathlib.Core.Path.{_≡_, refl, ap, _∙_}
 use Prim.Native.Nat.{_+_, _-_, _≤_}
-use native.Mathlib.Omega.{arith}
 use lib.ListN.{length, set, getD}
 use lib.Seq.{paste, paste-zero}
 use borrow.Author.Needs.{needs}

@@ -1,5 +1,5 @@
 -- `writing::order_lines::line_text` spells the key and the numbers. A number of 64 bits has at most 20 digits, so there is room.
-use mathlib.Core.Path.{sym, ap, subst}
+use mathlib.Core.Path.{sym, subst}
 use native.Mathlib.Omega.{arith}
 use borrow.Author.Needs.{needs}
 use Rattle.decimals.proofs.Lengths.{digits-64}

@@ -14,7 +14,13 @@ and-next-requires c κs =
 and-next-requires-2 : tie.Need-and-next-requires-2
 and-next-requires-2 c κs =
     let o = c .before .before .before .before .before .o2 .given .0 in
-    omega (arith, spells-length _ (key turning) _ (c .before .begun2 .ensures), digits-8 (o .0 .0) (search needs), digits-8 (o .1 .0 .0) (search needs))
+    omega (
+      arith,
+      spells-length _ (key turning) _ (c .before .begun2 .ensures),
+      digits-8 (o .0 .0) (search needs),
+      digits-8 (o .1 .0 .0) (search needs),
+      digits-8 (o .1 .1 .0 .0) (search needs),
+    )
 
 and-next-requires-3 : tie.Need-and-next-requires-3
 and-next-requires-3 c κs =
