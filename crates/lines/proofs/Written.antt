@@ -41,7 +41,8 @@ module _ (jacks : ℕ) (l : Line) (buf : List ℕ) where
   refused-kept k s e = rw e
 
   -- what was accepted fits and has room
-  accepted-front : (n : ℕ) → writeOf jacks l buf ≡ accepted n → (length (lineText l) ≡ n) × (lineText l ++ drop (length (lineText l)) buf ≡ writeBytes jacks l buf)
+  accepted-front : (n : ℕ) → writeOf jacks l buf ≡ accepted n
+      → (length (lineText l) ≡ n) × (lineText l ++ drop (length (lineText l)) buf ≡ writeBytes jacks l buf)
   accepted-front n e =
       either (test (lineFits jacks l))
       (λ f. either (below? (length buf) (length (lineText l)))
