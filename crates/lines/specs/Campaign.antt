@@ -1,0 +1,13 @@
+-- The lines that a campaign writes (the paper, 'The campaign' and 'Order lines'). The jacks, the largest number and the count of ranks are parameters.
+-- Assumes nothing.
+use Prim.Native.Nat.{ℕ, _≤_, _<_}
+use Rattle.listing.specs.Orders.{InShape}
+use Rattle.words.specs.Meaning.{orderOf}
+use Rattle.words.specs.declared.Line.{Line}
+use Rattle.words.specs.declared.Line.the-variants.{Movement, Mark, End}
+
+-- an order in shape, a mark whose rank is below the count, an end; no number above `most`
+abbrev pub OfCampaign : ℕ → ℕ → ℕ → Line → Type 0
+OfCampaign jacks most ranks (Movement o) = InShape jacks (orderOf o)
+OfCampaign jacks most ranks (Mark m r) = (m ≤ most) × (r < ranks)
+OfCampaign jacks most ranks (End m) = m ≤ most

@@ -1,0 +1,4 @@
+pub mod Format
+pub mod Reading
+pub mod Calls
+pub mod Campaign
