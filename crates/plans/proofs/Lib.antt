@@ -1,0 +1,6 @@
+pub mod Lines
+pub mod OneLine
+pub mod Legs
+pub mod Plans
+pub mod Runs
+pub mod Turns

@@ -1,0 +1,14 @@
+-- `plans::fields::good`: a value below low is not good, and any other is if it is below `below`.
+use mathlib.Core.Path.{sym}
+use Rattle.plans.proofs.Lines.{low-value, high-value}
+use Rattle.plans.proofs.fields.good.Statement.{statement}
+use Rattle.plans.proofs.fields.good.Tie as tie
+
+returns : tie.Need-returns
+returns c = sym (low-value _ _ _ (c .if1 .taken))
+
+returns-2 : tie.Need-returns-2
+returns-2 c = sym (high-value _ _ _ (c .before .if1 .left))
+
+pub good-spec : {M : Type 1} → statement M
+good-spec = tie.close (tie.spec returns returns-2)
