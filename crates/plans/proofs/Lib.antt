@@ -6,3 +6,4 @@ pub mod Runs
 pub mod Turns
 pub mod Longest
 pub mod Only
+pub mod Cases

@@ -69,9 +69,14 @@ text-bounded most p h =
     digits-no-fewer (count (p .ports)) (count (most .ports)) (count-within (p .ports) (most .ports) (omega (arith, h .fewPorts)) (h .manyPorts)) in
     let d : length ls * (13 + 2 * places (count (p .ports))) ≤ most .legs * (13 + 2 * places (count (most .ports))) =
     mul-le-mul (h .manyLegs) (omega arith) in
-    omega
-    (arith, length-append a (b ++ legsText ls), length-append b (legsText ls), field-length portsKey (digitsOf (p .ports)), field-length legsKey (digitsOf (length ls)),
-    legs-length (count (p .ports)) ls (h .each))
+    omega (
+      arith,
+      length-append a (b ++ legsText ls),
+      length-append b (legsText ls),
+      field-length portsKey (digitsOf (p .ports)),
+      field-length legsKey (digitsOf (length ls)),
+      legs-length (count (p .ports)) ls (h .each),
+    )
 
 -- legs among `size` ranks have at most `size` marks each
 legs-marks : (size : ℕ) (ls : List Leg) → EachFits size ls → marks ls ≤ length ls * size
@@ -107,3 +112,76 @@ text-801 t p e =
 -- no accepted plan has more than 14320234099086433936 marks
 pub marks-most : (t : List ℕ) (p : Planned) → readPlanOf t ≡ accepted p → marks (p .legs) ≤ 14320234099086433936
 marks-most t p e = omega (arith, marks-bounded device p (accepted-fits device 1 t p e .0), most-marks)
+
+-- ---- a plan that attains both
+
+-- a leg round the whole circuit of 20 ports, backward from the last rank
+abbrev pub longestLeg : Leg
+longestLeg = record { start = 895014631192902120; back = true; run = 895014631192902120 }
+
+-- 20 ports and sixteen such legs
+abbrev pub longest : Planned
+longest = record { ports = mostPorts; legs = replicate mostLegs longestLeg }
+
+-- the same leg several times
+same-fits : (size k : ℕ) (l : Leg) → LegFits size l → EachFits size (replicate k l)
+same-fits size zero l h = tt
+same-fits size (suc k) l h = (h, same-fits size k l h)
+
+same-length : (k : ℕ) (l : Leg) → length (legsText (replicate k l)) ≡ k * length (legText l)
+unfolding legsText
+same-length zero l = omega arith
+same-length (suc k) l =
+    let e : length (legsText (replicate k l)) ≡ k * length (legText l) = same-length k l in
+    let c : suc k * length (legText l) ≡ length (legText l) + k * length (legText l) = omega arith in
+    omega (arith, length-append (legText l) (legsText (replicate k l)))
+
+same-marks : (k : ℕ) (l : Leg) → marks (replicate k l) ≡ k * suc (l .run)
+unfolding marks
+same-marks zero l = omega arith
+same-marks (suc k) l =
+    let e : marks (replicate k l) ≡ k * suc (l .run) = same-marks k l in
+    let c : suc k * suc (l .run) ≡ suc (l .run) + k * suc (l .run) = omega arith in
+    omega arith
+
+-- it fits
+pub longest-fits : Fits device longest
+longest-fits =
+    let size : 895014631192902120 < count mostPorts = omega (arith, count-20) in
+    record {
+      fewPorts = omega arith;
+      manyPorts = omega arith;
+      fewLegs = omega (arith, length-replicate mostLegs longestLeg);
+      manyLegs = omega (arith, length-replicate mostLegs longestLeg);
+      each = same-fits (count mostPorts) mostLegs longestLeg (record { start = size; run = size; behind = λ e. omega arith });
+    }
+
+-- its leg has 49 bytes
+longest-leg : length (legText longestLeg) ≡ 49
+longest-leg =
+    let d = digitsOf 895014631192902120 in
+    let n : length d ≡ 18 = eighteen-digits 895014631192902120 (omega arith) (omega arith) in
+    omega (arith, length-append (fieldText startKey d) (fieldText runKey (45 ∷ d)), field-length startKey d, field-length runKey (45 ∷ d))
+
+-- its text has 801 bytes
+pub longest-801 : length (planText longest) ≡ 801
+unfolding planText
+longest-801 =
+    let ls = longest .legs in
+    let a = fieldText portsKey (digitsOf mostPorts) in
+    let b = fieldText legsKey (digitsOf (length ls)) in
+    omega (
+      arith,
+      length-append a (b ++ legsText ls),
+      length-append b (legsText ls),
+      field-length portsKey (digitsOf mostPorts),
+      field-length legsKey (digitsOf mostLegs),
+      two-digits 20 (omega arith) (omega arith),
+      two-digits 16 (omega arith) (omega arith),
+      same-length mostLegs longestLeg,
+      longest-leg,
+    )
+
+-- and it has the most marks
+pub longest-marks : marks (longest .legs) ≡ 14320234099086433936
+longest-marks = same-marks mostLegs longestLeg

@@ -79,8 +79,7 @@ accepted-fits most first t p e =
     let y = number-accepted (most .largest) legsKey 1 (suc (most .legs)) 9 (suc first) (a .first .rest) (b .first) (b .taken) in
     let z = legs-accepted (most .largest) (count n) k (suc (suc first)) (b .first .rest) (c .first) (c .taken) in
     let same : record { ports = n; legs = c .first } ≡ p = accepted-once (c .on) in
-    rw (sym same)
-    (
+    rw (sym same) (
       record {
         fewPorts = x .1;
         manyPorts = omega (arith, x .2);
@@ -92,7 +91,7 @@ accepted-fits most first t p e =
           ∙ ap (λ r. fieldText portsKey (digitsOf n) ++ r)
           (y .0
           ∙ ap (λ r. fieldText legsKey (digitsOf k) ++ r) (z .whole)
-          ∙ ap (λ m. fieldText legsKey (digitsOf m) ++ legsText (c .first)) (sym (z .many)))
+          ∙ ap (λ m. fieldText legsKey (digitsOf m) ++ legsText (c .first)) (sym (z .many))),
     )
 
 -- a plan has one text

@@ -35,8 +35,7 @@ returns c =
     let a = f .before .before .before .before in
     let e = sym (ap foundIs (k .before .n .given .1)) ∙ f .find .ensures in
     let g = sym (c .if1 .taken) ∙ c .before .has-key .ensures in
-    let l = line-within (a .args .text .now) (a .args .at) (a .args .key .now) (a .args .line) _ e (a .pre) in
-    (
+    let l = line-within (a .args .text .now) (a .args .at) (a .args .key .now) (a .args .line) _ e (a .pre) in (
       key-found (a .args .text .now) (a .args .at) (a .args .key .now) (a .args .line) _ e g,
       (key-within (a .args .text .now) (a .args .at) (a .args .key .now) (a .args .line) _ e g l, l),
     )

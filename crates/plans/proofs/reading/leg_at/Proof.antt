@@ -28,8 +28,7 @@ returns-3 : tie.Need-returns-3
 returns-3 c =
     let r = c .before .before .before in
     let s = r .before .before .before in
-    let e = sym (ap (numberedTold _) (s .start .given .1)) ∙ s .before .before .number-at .ensures .0 in
-    (
+    let e = sym (ap (numberedTold _) (s .start .given .1)) ∙ s .before .before .number-at .ensures .0 in (
       leg-taken _ _ _ _ _ e _ (sym (ap (runTold _) (c .before .m .given .1)) ∙ r .run-at .ensures .0),
       subst (RunWithin _) (c .before .m .given .1) (r .run-at .ensures .1),
     )
@@ -38,8 +37,7 @@ returns-4 : tie.Need-returns-4
 returns-4 c =
     let r = c .before .before .before in
     let s = r .before .before .before in
-    let e = sym (ap (numberedTold _) (s .start .given .1)) ∙ s .before .before .number-at .ensures .0 in
-    (
+    let e = sym (ap (numberedTold _) (s .start .given .1)) ∙ s .before .before .number-at .ensures .0 in (
       leg-taken _ _ _ _ _ e _ (sym (ap (runTold _) (c .before .m2 .given .1)) ∙ r .run-at .ensures .0),
       subst (RunWithin _) (c .before .m2 .given .1) (r .run-at .ensures .1),
     )

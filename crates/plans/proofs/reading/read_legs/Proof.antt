@@ -50,13 +50,12 @@ loop-again c =
     let i = l .before .before in
     let n = i .before in
     let a = n .before .before in
-    let g = k .before .start .given in
-    (
+    let g = k .before .start .given in (
       search needs,
       subst (LegWithin _) (g .1) (l .leg-at .ensures .1),
       read-more largest64 _ mostLegs (a .args .legs) 3 _ _ _ _ (i .loop .done) (i .loop .inv .2) _ _ (l .before .loop-test .taken)
-      (omega (arith, l .before .loop-test .taken, a .pre .3)) (sym (ap (legTold _) (g .1)) ∙ l .leg-at .ensures .0)
-      (ap (λ z. toZ w64 (ofZ w64 z)) (c .signed-run .ensures) ∙ stored-run (g .0 .1 .1 .0) (below k) (g .0 .1 .0)),
+          (omega (arith, l .before .loop-test .taken, a .pre .3)) (sym (ap (legTold _) (g .1)) ∙ l .leg-at .ensures .0)
+          (ap (λ z. toZ w64 (ofZ w64 z)) (c .signed-run .ensures) ∙ stored-run (g .0 .1 .1 .0) (below k) (g .0 .1 .0)),
     )
 
 returns-2 : tie.Need-returns-2 Inv-loop μ-loop
