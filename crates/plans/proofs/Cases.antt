@@ -1,20 +1,26 @@
 -- Texts, good and bad, beside what each tells: one table and one theorem (the paper, 'Cases to prove', and the cases of lines, keys and numbers).
 -- Assumes nothing.
-use mathlib.Core.Path.{_≡_, refl}
-use mathlib.Core.Bool.{Bool, true, false}
+use mathlib.Core.Path.{_≡_, refl, sym}
+use mathlib.Core.Bool.{Bool, true, false, true≢false}
 use mathlib.Core.List.{List, [], _∷_, _++_, map}
-use Prim.Native.Nat.{ℕ, zero, suc}
+use Prim.Native.Nat.{ℕ, zero, suc, _<_}
+use native.Mathlib.Omega.{arith}
 use lib.ListN.{replicate}
 use Rattle.listing.specs.Count.{count}
+use Rattle.listing.specs.Limits.{mostPorts}
+use Rattle.listing.proofs.Limits.{count-20}
 use Rattle.promise.specs.Plan.{Leg}
 use Rattle.words.specs.Told.{Told, accepted, refused, atLine}
 use Rattle.texts.specs.Parts.{newline, firstOf, begins}
-use Rattle.decimals.specs.Decimal.{glyph, digitIn, onward, numberIn, upTo}
+use Rattle.decimals.specs.Decimal.{glyph, spell, digitsOf, digitIn, onward, numberIn, upTo}
 use Rattle.decimals.specs.Signed.{minus, signedUpTo}
 use Rattle.decimals.proofs.Cases.{allButOne}
-use Rattle.plans.specs.Grammar.{Planned, portsKey, legsKey, startKey, runKey, fieldText}
-use Rattle.plans.specs.Reading.{lineIn, between, fieldIn, legIn, legsIn, planIn}
-use Rattle.plans.specs.Calls.{readPlanOf}
+use Rattle.fields.specs.Field.{fieldText, lineIn, between, fieldIn}
+use Rattle.plans.specs.Grammar.{Planned, portsKey, legsKey, startKey, runKey, legsText, planText}
+use Rattle.plans.specs.Reading.{legIn, legsIn, planIn}
+use Rattle.plans.specs.Calls.{device, readPlanOf}
+use Rattle.plans.proofs.Plans.{fits-accepted}
+use Rattle.plans.proofs.Longest.{device-wide}
 
 -- a text beside what it tells
 pub record Case : Type 0 where
@@ -102,8 +108,8 @@ numbers =
     ∷ (ports (n (2 ∷ 7 ∷ 6 ∷ [])) is no 1 1)
     ∷ []
 
--- the legs' line missing; without newline; `-1` legs; 0 and 17 legs, also before a leg's line that is wrong; then for one leg: its lines missing; run before start;
--- start `-1`, 9, `18446744073709551616`; the run's line missing; run `-0`, 9, `-9`, -18446744073709551615, -18446744073709551616
+-- the legs' line missing; without newline; `-1` legs; 0 and 17 legs, also before a leg's line that is wrong; then for one leg: its lines missing; run before
+-- start; start `-1`, 9, `18446744073709551616`; the run's line missing; run `-0`, 9, `-9`, -18446744073709551615, -18446744073709551616
 abbrev pub legLines : List Case
 legLines =
     (ports (n (4 ∷ [])) is no 11 2)
@@ -137,22 +143,46 @@ ends =
     ∷ (one (n (2 ∷ [])) (n (0 ∷ [])) (neg (1 ∷ [])) is no 10 4)
     ∷ []
 
--- run 8 and -8 for 4 ports, run 0 for 2, sixteen legs, 20 ports, and the paper's example
+-- run 8 and -8 for 4 ports, run 0 for 2, sixteen legs, and the paper's example
 abbrev pub plans : List Case
 plans =
     (one (n (4 ∷ [])) (n (8 ∷ [])) (n (8 ∷ [])) is planOf 4 (leg 8 false 8 ∷ []))
     ∷ (one (n (4 ∷ [])) (n (8 ∷ [])) (neg (8 ∷ [])) is planOf 4 (leg 8 true 8 ∷ []))
     ∷ (one (n (2 ∷ [])) (n (0 ∷ [])) (n (0 ∷ [])) is planOf 2 (leg 0 false 0 ∷ []))
     ∷ (ports (n (2 ∷ [])) ++ (legs (n (1 ∷ 6 ∷ [])) ++ stays 16) is planOf 2 (replicate 16 (leg 0 false 0)))
-    ∷ (one (n (2 ∷ 0 ∷ [])) (n (0 ∷ [])) (n (0 ∷ [])) is planOf 20 (leg 0 false 0 ∷ []))
     ∷ (ports (n (4 ∷ [])) ++ (legs (n (2 ∷ [])) ++ (start (n (0 ∷ [])) ++ (run (n (2 ∷ [])) ++ (start (n (8 ∷ [])) ++ run (neg (1 ∷ []))))))
     is planOf 4 (leg 0 false 2 ∷ leg 8 true 1 ∷ []))
     ∷ []
 
-abbrev pub cases : List Case
-cases = lines ++ (numbers ++ (legLines ++ (ends ++ plans)))
+-- 20 ports
+abbrev pub twenty : Case
+twenty = one (n (2 ∷ 0 ∷ [])) (n (0 ∷ [])) (n (0 ∷ [])) is planOf 20 (leg 0 false 0 ∷ [])
 
--- each text tells what stands beside it
-pub cases-hold : map (λ c. readPlanOf (c .text)) cases ≡ map (λ c. c .tells) cases
+abbrev pub others : List Case
+others = lines ++ (numbers ++ (legLines ++ (ends ++ plans)))
+
+abbrev pub cases : List Case
+cases = twenty ∷ others
+
+-- ---- each text tells what stands beside it
+
+-- the plan of 20 ports fits, and its text is accepted
+twenty-holds : readPlanOf (twenty .text) ≡ twenty .tells
+unfolding spell digitsOf legsText planText
+twenty-holds =
+    let one : 0 < count mostPorts = omega (arith, count-20) in
+    fits-accepted device 1 (record { ports = 20; legs = leg 0 false 0 ∷ [] }) device-wide
+    (record {
+      fewPorts = omega arith;
+      manyPorts = omega arith;
+      fewLegs = omega arith;
+      manyLegs = omega arith;
+      each = (record { start = one; run = one; behind = λ e. absurd (true≢false (sym e)) }, tt);
+    })
+
+others-hold : map (λ c. readPlanOf (c .text)) others ≡ map (λ c. c .tells) others
 unfolding count firstOf begins digitIn onward numberIn upTo signedUpTo lineIn between fieldIn legIn legsIn planIn
-cases-hold = refl
+others-hold = refl
+
+pub cases-hold : map (λ c. readPlanOf (c .text)) cases ≡ map (λ c. c .tells) cases
+cases-hold = λ i. twenty-holds i ∷ others-hold i

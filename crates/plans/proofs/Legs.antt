@@ -1,68 +1,23 @@
 -- Legs both ways: the text of legs that fit is read as these legs (`leg-text`, `legs-text`), and what is read as legs is their text, and they fit
--- (`leg-accepted`, `legs-accepted`). Before them the lines with a number and with a signed number; and what a reader concludes from each line of a leg.
+-- (`leg-accepted`, `legs-accepted`). Before them, what a reader concludes from each line of a leg.
 -- Assumes nothing.
 use mathlib.Core.Path.{_≡_, refl, sym, ap, _∙_}
 use mathlib.Core.Bool.{Bool, true, false, true≢false, cond}
 use mathlib.Core.List.{List, [], _∷_, _++_, append-assoc}
-use mathlib.Core.Option.{none}
 use Prim.Native.Nat.{ℕ, zero, suc, _+_, _≤_, _<_}
 use native.Mathlib.Numerals.{add-one}
 use native.Mathlib.Omega.{arith}
 use lib.ListN.{length}
 use Rattle.promise.specs.Plan.{Leg}
 use Rattle.words.specs.Told.{Told, Spot, accepted, refused, then}
-use Rattle.texts.specs.Parts.{newline, firstOf}
-use Rattle.texts.proofs.Cuts.{first-none, first-append}
+use Rattle.texts.specs.Parts.{firstOf}
 use Rattle.decimals.specs.Decimal.{digitsOf}
-use Rattle.decimals.specs.Signed.{Signed, ahead, behind, magnitude, Proper, minus, signedDigits}
-use Rattle.decimals.proofs.Shape.{digits-decimal}
-use Rattle.decimals.proofs.Limits.{number-up-to, digits-up-to}
-use Rattle.decimals.proofs.Signed.{signed-of-digits, digits-of-signed}
-use Rattle.plans.specs.Grammar.{startKey, runKey, fieldText, runOf, legText, legsText, LegFits, EachFits}
-use Rattle.plans.specs.Reading.{Got, fieldIn, unsigned, signed, startField, runField, legBy, legIn, ended, preceded, legsIn}
-use Rattle.plans.proofs.OneLine.{then-accepted, field-accepted, field-text}
-
--- what is accepted is one thing
-pub accepted-once : {A : Type 0} {x y : A} → accepted x ≡ accepted y → x ≡ y
-accepted-once e = cc
-
--- ---- numbers have no newline
-
-clear-digits : (n : ℕ) → firstOf newline (digitsOf n) ≡ none
-clear-digits n = first-none newline (digitsOf n) (λ j h e. let d = digits-decimal n .digits j h in omega arith)
-
-clear-signed : (s : Signed) → firstOf newline (signedDigits s) ≡ none
-unfolding firstOf
-clear-signed (ahead n) = clear-digits n
-clear-signed (behind n) = first-append newline (minus ∷ []) (digitsOf n) refl (clear-digits n)
-
--- ---- a line with a number, and one with a signed number
-
-module _ (largest : ℕ) (key : List ℕ) (low below k line : ℕ) where
-  pub number-text : (n : ℕ) (rest : List ℕ) → firstOf newline key ≡ none → n ≤ largest → low ≤ n → n < below
-      → fieldIn (unsigned largest key low below k) line (fieldText key (digitsOf n) ++ rest) ≡ accepted (record { value = n; rest = rest })
-  number-text n rest clear h l b =
-      field-text (unsigned largest key low below k) line (digitsOf n) rest n (first-append newline key (digitsOf n) clear (clear-digits n)) (number-up-to largest n h) l b
-
-  pub number-accepted : (t : List ℕ) (g : Got ℕ) → fieldIn (unsigned largest key low below k) line t ≡ accepted g
-      → (t ≡ fieldText key (digitsOf (g .value)) ++ g .rest) × (low ≤ g .value) × (g .value < below)
-  number-accepted t g e =
-      let f = field-accepted (unsigned largest key low below k) line t g e in
-      let d = digits-up-to largest (f .value) (g .value) (f .number) in
-      (f .whole ∙ ap (λ v. fieldText key v ++ g .rest) (d .0), f .low, f .below)
-
-  pub signed-text : (s : Signed) (rest : List ℕ) → firstOf newline key ≡ none → Proper s → magnitude s ≤ largest → low ≤ magnitude s → magnitude s < below
-      → fieldIn (signed largest key low below k) line (fieldText key (signedDigits s) ++ rest) ≡ accepted (record { value = s; rest = rest })
-  signed-text s rest clear p h l b =
-      field-text (signed largest key low below k) line (signedDigits s) rest s (first-append newline key (signedDigits s) clear (clear-signed s))
-      (signed-of-digits largest s p h) l b
-
-  pub signed-accepted : (t : List ℕ) (g : Got Signed) → fieldIn (signed largest key low below k) line t ≡ accepted g
-      → (t ≡ fieldText key (signedDigits (g .value)) ++ g .rest) × Proper (g .value) × (magnitude (g .value) < below)
-  signed-accepted t g e =
-      let f = field-accepted (signed largest key low below k) line t g e in
-      let d = digits-of-signed largest (f .value) (g .value) (f .number) in
-      (f .whole ∙ ap (λ v. fieldText key v ++ g .rest) (d .text), d .proper, f .below)
+use Rattle.decimals.specs.Signed.{Signed, ahead, behind, magnitude, Proper, signedDigits}
+use Rattle.fields.specs.Field.{fieldText, Got, fieldIn}
+use Rattle.fields.proofs.OneLine.{then-accepted, accepted-once}
+use Rattle.fields.proofs.Numbers.{number-text, number-accepted, signed-text, signed-accepted}
+use Rattle.plans.specs.Grammar.{startKey, runKey, runOf, legText, legsText, LegFits, EachFits}
+use Rattle.plans.specs.Reading.{startField, runField, legBy, legIn, ended, preceded, legsIn}
 
 -- ---- a leg by its start and its run
 
@@ -116,10 +71,12 @@ leg-text largest size line l rest w h =
     let b = fieldText runKey (signedDigits (runOf l)) in
     let m : magnitude (runOf l) ≡ l .run = run-size (l .back) (l .run) in
     let s = number-text largest startKey 0 size 6 line (l .start) (b ++ rest) refl (omega (arith, h .start)) (omega arith) (h .start) in
-    let r = signed-text largest runKey 0 size 10 (line + 1) (runOf l) rest refl (fits-proper (l .back) (l .run) (h .behind)) (omega (arith, h .run)) (omega arith)
+    let r = signed-text largest runKey 0 size 10 (line + 1) (runOf l) rest refl (fits-proper (l .back) (l .run) (h .behind)) (omega (arith, h .run))
+    (omega arith)
     (omega (arith, h .run)) in
     ap (legIn largest size line) (append-assoc a b rest)
-    ∙ sym (leg-taken largest size line (a ++ (b ++ rest)) (record { value = l .start; rest = b ++ rest }) (sym s) (record { value = runOf l; rest = rest }) (sym r))
+    ∙ sym
+    (leg-taken largest size line (a ++ (b ++ rest)) (record { value = l .start; rest = b ++ rest }) (sym s) (record { value = runOf l; rest = rest }) (sym r))
     ∙ ap (λ (x : Leg). accepted (record { value = x; rest = rest })) (leg-by (l .start) (l .back) (l .run))
 
 -- what is read as a leg is its text, and it fits
@@ -158,7 +115,8 @@ module _ (largest size : ℕ) where
   legs-on left line t g e = rw (sym e)
 
   -- it is refused
-  pub legs-refused : (left line : ℕ) (t : List ℕ) (k : ℕ) (s : Spot) → refused k s ≡ legIn largest size line t → legsIn largest size (suc left) line t ≡ refused k s
+  pub legs-refused : (left line : ℕ) (t : List ℕ) (k : ℕ) (s : Spot) → refused k s ≡ legIn largest size line t
+      → legsIn largest size (suc left) line t ≡ refused k s
   unfolding legsIn
   legs-refused left line t k s e = rw (sym e)
 

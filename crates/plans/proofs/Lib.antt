@@ -1,5 +1,3 @@
-pub mod Lines
-pub mod OneLine
 pub mod Legs
 pub mod Plans
 pub mod Runs

@@ -5,7 +5,7 @@ use mathlib.Core.Path.{_≡_, refl, sym, ap, subst, _∙_}
 use mathlib.Core.Bool.{Bool, true, false, cond}
 use mathlib.Core.List.{List, [], _∷_, _++_}
 use Prim.Native.Nat.{ℕ, zero, suc, _+_, _*_, _≤_, _<_}
-use native.Mathlib.Nat.{le-trans, mul-le-mul, mul-le-mul-right, le-refl}
+use native.Mathlib.Nat.{le-trans, mul-le-mul}
 use native.Mathlib.Omega.{arith}
 use lib.ListN.{length, replicate, length-append, length-replicate}
 use Rattle.listing.specs.Count.{count}
@@ -16,9 +16,10 @@ use Rattle.words.specs.Told.{accepted}
 use Rattle.decimals.specs.Decimal.{digitsOf}
 use Rattle.decimals.specs.Signed.{Signed, ahead, behind, signedDigits}
 use Rattle.decimals.proofs.Lengths.{digits-at-most, digits-above, digits-no-fewer}
-use Rattle.plans.specs.Grammar.{Planned, Limits, portsKey, legsKey, startKey, runKey, fieldText, runOf, legText, legsText, planText, LegFits, EachFits, Fits}
+use Rattle.fields.specs.Field.{fieldText}
+use Rattle.plans.specs.Grammar.{Planned, Limits, Wide, portsKey, legsKey, startKey, runKey, runOf, legText, legsText, planText, LegFits, EachFits, Fits}
 use Rattle.plans.specs.Calls.{device, readPlanOf}
-use Rattle.plans.proofs.Plans.{count-within, accepted-fits}
+use Rattle.plans.proofs.Plans.{count-within, fits-accepted, accepted-fits}
 
 -- the digits of a number, counted
 abbrev pub places : ℕ → ℕ
@@ -102,6 +103,10 @@ two-digits n h l = omega (arith, digits-at-most 1 n (omega arith), digits-above 
 eighteen-digits : (n : ℕ) → 100000000000000000 ≤ n → n < 1000000000000000000 → places n ≡ 18
 eighteen-digits n h l = omega (arith, digits-at-most 17 n (omega arith), digits-above 17 n (omega arith))
 
+-- it holds its ports, its legs and its ranks
+pub device-wide : Wide device
+device-wide = record { ports = omega arith; legs = omega arith; ranks = omega (arith, count-20) }
+
 -- no accepted text is longer than 801 bytes
 pub text-801 : (t : List ℕ) (p : Planned) → readPlanOf t ≡ accepted p → length t ≤ 801
 text-801 t p e =
@@ -144,7 +149,7 @@ same-marks (suc k) l =
     let c : suc k * suc (l .run) ≡ suc (l .run) + k * suc (l .run) = omega arith in
     omega arith
 
--- it fits
+-- it fits, so its text is accepted
 pub longest-fits : Fits device longest
 longest-fits =
     let size : 895014631192902120 < count mostPorts = omega (arith, count-20) in
@@ -155,6 +160,9 @@ longest-fits =
       manyLegs = omega (arith, length-replicate mostLegs longestLeg);
       each = same-fits (count mostPorts) mostLegs longestLeg (record { start = size; run = size; behind = λ e. omega arith });
     }
+
+pub longest-accepted : readPlanOf (planText longest) ≡ accepted longest
+longest-accepted = fits-accepted device 1 longest device-wide longest-fits
 
 -- its leg has 49 bytes
 longest-leg : length (legText longestLeg) ≡ 49

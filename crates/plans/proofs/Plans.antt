@@ -1,5 +1,5 @@
--- Plans both ways: the text of a plan that fits is accepted as that plan (`fits-accepted`), and a text that is accepted as a plan is its text, and the plan fits
--- (`accepted-fits`). So a plan has one text, and a text is of one plan. Before them, what a reader concludes from the first two lines.
+-- Plans both ways: the text of a plan that fits is accepted as that plan (`fits-accepted`), and a text that is accepted as a plan is its text, and the plan
+-- fits (`accepted-fits`). So a plan has one text, and a text is of one plan. Before them, what a reader concludes from the first two lines.
 -- Assumes nothing.
 use mathlib.Core.Path.{_≡_, refl, sym, ap, _∙_}
 use mathlib.Core.List.{List, [], _∷_, _++_, append-assoc}
@@ -13,10 +13,12 @@ use Rattle.promise.specs.Plan.{Leg, legAt}
 use Rattle.words.specs.Told.{Told, Spot, accepted, refused, then}
 use Rattle.texts.specs.Parts.{newline, firstOf}
 use Rattle.decimals.specs.Decimal.{digitsOf}
-use Rattle.plans.specs.Grammar.{Planned, Limits, Wide, portsKey, legsKey, fieldText, legsText, planText, LegFits, EachFits, Fits}
-use Rattle.plans.specs.Reading.{Got, fieldIn, portsField, legsField, legsIn, withPorts, planIn}
-use Rattle.plans.proofs.OneLine.{then-accepted}
-use Rattle.plans.proofs.Legs.{accepted-once, number-text, number-accepted, legs-text, legs-accepted}
+use Rattle.fields.specs.Field.{fieldText, Got, fieldIn}
+use Rattle.fields.proofs.OneLine.{then-accepted, accepted-once}
+use Rattle.fields.proofs.Numbers.{number-text, number-accepted}
+use Rattle.plans.specs.Grammar.{Planned, Limits, Wide, portsKey, legsKey, legsText, planText, LegFits, EachFits, Fits}
+use Rattle.plans.specs.Reading.{portsField, legsField, legsIn, withPorts, planIn}
+use Rattle.plans.proofs.Legs.{legs-text, legs-accepted}
 
 -- a leg of legs that fit fits
 pub each-fits : (size : ℕ) (ls : List Leg) → EachFits size ls → (i : ℕ) → i < length ls → LegFits size (legAt ls i)
@@ -60,7 +62,8 @@ fits-accepted most first p w h =
     let c : count (p .ports) ≤ suc (most .largest) = le-trans (count-within (p .ports) (most .ports) (omega (arith, h .fewPorts)) (h .manyPorts)) (w .ranks) in
     let a = number-text (most .largest) portsKey 2 (suc (most .ports)) 1 first (p .ports) more refl (omega (arith, w .ports, h .manyPorts)) (h .fewPorts)
     (omega (arith, h .manyPorts)) in
-    let b = number-text (most .largest) legsKey 1 (suc (most .legs)) 9 (suc first) (length ls) (legsText ls) refl (omega (arith, w .legs, h .manyLegs)) (h .fewLegs)
+    let b = number-text (most .largest) legsKey 1 (suc (most .legs)) 9 (suc first) (length ls) (legsText ls) refl (omega (arith, w .legs, h .manyLegs))
+    (h .fewLegs)
     (omega (arith, h .manyLegs)) in
     sym (legs-decide most first (fieldText portsKey (digitsOf (p .ports)) ++ more) (record { value = p .ports; rest = more }) (sym a)
     (record { value = length ls; rest = legsText ls }) (sym b))

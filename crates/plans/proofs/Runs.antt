@@ -55,7 +55,8 @@ held-legs : (size : ℕ) (ls : List Leg) (xs : List ℕ) (ys : List ℤ) → Eac
 unfolding legsHeld
 held-legs size [] xs ys h = refl
 held-legs size (l ∷ ls) xs ys h =
-    ap (λ x. x ∷ legsHeld (length ls) (map (λ l. l .start) ls ++ xs) (map (λ l. signedRun (l .back) (l .run)) ls ++ ys)) (held-leg (l .start) (l .back) (l .run) (h .0 .behind))
+    ap (λ x. x ∷ legsHeld (length ls) (map (λ l. l .start) ls ++ xs) (map (λ l. signedRun (l .back) (l .run)) ls ++ ys))
+    (held-leg (l .start) (l .back) (l .run) (h .0 .behind))
     ∙ ap (λ x. l ∷ x) (held-legs size ls xs ys (h .1))
 
 -- the places of a plan that fits hold that plan

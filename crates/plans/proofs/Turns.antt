@@ -11,7 +11,8 @@ use lib.ListN.{length, set, replicate, length-append, length-map, length-replica
 use lib.Seq.{set-at, append-snoc}
 use Rattle.promise.specs.Plan.{Leg}
 use Rattle.words.specs.Told.{Told, Spot, accepted, refused, atLine, then}
-use Rattle.plans.specs.Reading.{Got, legIn, ended, preceded, legsIn, withPorts}
+use Rattle.fields.specs.Field.{Got}
+use Rattle.plans.specs.Reading.{legIn, ended, preceded, legsIn, withPorts}
 use Rattle.plans.specs.Answers.{signedRun, padded, placed, Answers}
 use Rattle.plans.specs.declared.Judged.the-variants.{Accepted}
 use Rattle.plans.specs.declared.ReadPlan.{ReadPlan}
@@ -105,7 +106,8 @@ module _ (largest size most legs line : ℕ) (text : List ℕ) where
         }
 
     -- a leg that is refused
-    refused-there : (k : ℕ) (s : Spot) → done < legs → refused k s ≡ legIn largest size (line + 2 * done) rest → legsIn largest size legs line text ≡ refused k s
+    refused-there : (k : ℕ) (s : Spot) → done < legs → refused k s ≡ legIn largest size (line + 2 * done) rest
+        → legsIn largest size legs line text ≡ refused k s
     refused-there k s h e =
         let a : legs - done ≡ suc (legs - (done + 1)) = omega arith in
         R .told
@@ -136,12 +138,14 @@ module _ (largest size most legs line : ℕ) (text : List ℕ) where
           went-on (b ∷ t) l = refl
 
       -- no byte after it: the plan
-      pub plan-read : done ≡ legs → length rest ≤ 0 → r ≡ record { judged = Accepted; plan = record { ports = ports; legs = legs; starts = starts; runs = runs } }
+      pub plan-read : done ≡ legs → length rest ≤ 0
+          → r ≡ record { judged = Accepted; plan = record { ports = ports; legs = legs; starts = starts; runs = runs } }
           → Answers most (withPorts ports (legsIn largest n legs line text)) r
       unfolding placed
       plan-read h l e =
           let m : legs ≡ length (R .read) = sym (R .many ∙ h) in
-          let all : legsIn largest size legs line text ≡ accepted (R .read) = last h ∙ ap (preceded (R .read)) (at-end rest l) ∙ ap accepted (append-nil (R .read)) in
+          let all : legsIn largest size legs line text ≡ accepted (R .read) =
+          last h ∙ ap (preceded (R .read)) (at-end rest l) ∙ ap accepted (append-nil (R .read)) in
           rw (e, sym z, all)
           (record { judged = refl; plan = λ i. record { ports = ports; legs = m i; starts = R .inStarts i; runs = R .inRuns i } })
         where

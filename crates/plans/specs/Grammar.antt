@@ -8,9 +8,9 @@ use mathlib.Core.List.{List, [], _∷_, _++_}
 use lib.ListN.{length}
 use Rattle.listing.specs.Count.{count}
 use Rattle.promise.specs.Plan.{Leg}
-use Rattle.texts.specs.Parts.{newline}
 use Rattle.decimals.specs.Decimal.{digitsOf}
 use Rattle.decimals.specs.Signed.{Signed, ahead, behind, signedDigits}
+use Rattle.fields.specs.Field.{fieldText}
 
 -- a plan: its ports and its legs
 pub record Planned : Type 0 where
@@ -43,10 +43,6 @@ startKey = 115 ∷ 116 ∷ 97 ∷ 114 ∷ 116 ∷ 61 ∷ []
 
 abbrev pub runKey : List ℕ
 runKey = 114 ∷ 117 ∷ 110 ∷ 61 ∷ []
-
--- a line: its key, its value, and one newline byte
-abbrev pub fieldText : List ℕ → List ℕ → List ℕ
-fieldText key value = (key ++ value) ++ (newline ∷ [])
 
 -- a run with its sign: behind for a leg that runs backward
 abbrev pub runOf : Leg → Signed

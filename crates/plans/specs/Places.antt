@@ -1,55 +1,14 @@
--- What the readers of single lines answer: places in the text, as the texts that they cut off. A place past the end is not answered.
+-- What the reader of a leg answers: a place in the text, as the text from there on. A place past the end is not answered.
 -- Assumes nothing.
-use Prim.Native.Nat.{ℕ, suc, _+_, _-_, _≤_, _<_}
+use Prim.Native.Nat.{ℕ, _≤_}
 use mathlib.Core.List.{List}
-use lib.ListN.{length, take, drop}
+use lib.ListN.{length, drop}
 use Rattle.promise.specs.Plan.{Leg}
 use Rattle.words.specs.Told.{Told, accepted}
 use Rattle.words.specs.Meaning.{refusalOf}
-use Rattle.texts.specs.Parts.{Parts}
-use Rattle.decimals.specs.Signed.{Signed, ahead, behind}
-use Rattle.plans.specs.Reading.{Got}
-use Rattle.plans.specs.declared.fields.Line.{Line}
-use Rattle.plans.specs.declared.fields.Line.the-variants.{Value, Refused as Line-Refused}
-use Rattle.plans.specs.declared.fields.Numbered.{Numbered}
-use Rattle.plans.specs.declared.fields.Numbered.the-variants.{Number, Refused as Number-Refused}
-use Rattle.plans.specs.declared.fields.Run.{Run}
-use Rattle.plans.specs.declared.fields.Run.the-variants.{Ahead, Behind, Refused as Run-Refused}
+use Rattle.fields.specs.Field.{Got}
 use Rattle.plans.specs.declared.reading.LegRead.{LegRead}
 use Rattle.plans.specs.declared.reading.LegRead.the-variants.{Leg as Leg-Read, Refused as Leg-Refused}
-
--- the bytes of t from place a up to place b
-abbrev pub part : ℕ → ℕ → List ℕ → List ℕ
-part a b t = take (b - a) (drop a t)
-
--- a line's value, and the text after its newline
-abbrev pub lineTold : List ℕ → Line → Told Parts
-lineTold t (Value from to) = accepted (record { front = part from to t; rest = drop (to + 1) t })
-lineTold t (Line-Refused f) = refusalOf f
-
-abbrev pub LineWithin : List ℕ → Line → Type 0
-LineWithin t (Value from to) = (from ≤ to) × (to < length t)
-LineWithin t (Line-Refused f) = Unit {0}
-
--- a number, and the text from the place after the line on
-abbrev pub numberedTold : List ℕ → Numbered → Told (Got ℕ)
-numberedTold t (Number v next) = accepted (record { value = v; rest = drop next t })
-numberedTold t (Number-Refused f) = refusalOf f
-
-abbrev pub NumberWithin : List ℕ → Numbered → Type 0
-NumberWithin t (Number v next) = next ≤ length t
-NumberWithin t (Number-Refused f) = Unit {0}
-
--- a run, and the text from the place after the line on
-abbrev pub runTold : List ℕ → Run → Told (Got Signed)
-runTold t (Ahead m next) = accepted (record { value = ahead m; rest = drop next t })
-runTold t (Behind m next) = accepted (record { value = behind m; rest = drop next t })
-runTold t (Run-Refused f) = refusalOf f
-
-abbrev pub RunWithin : List ℕ → Run → Type 0
-RunWithin t (Ahead m next) = next ≤ length t
-RunWithin t (Behind m next) = next ≤ length t
-RunWithin t (Run-Refused f) = Unit {0}
 
 -- a leg, and the text from the place after its lines on
 abbrev pub legTold : List ℕ → LegRead → Told (Got Leg)

@@ -1,7 +1,6 @@
 // Plans read from text: the plan, or the refusal with its line. What a text means stands in specs/.
 use words::Refusal;
 
-pub mod fields;
 pub mod reading;
 
 // A plan: its ports, its legs, and for each leg the rank it starts at and its run. The places beyond the legs are 0.

@@ -2,7 +2,7 @@
 use mathlib.Core.Path.{_≡_, sym, ap, subst, _∙_}
 use native.Mathlib.Omega.{arith}
 use borrow.Author.Needs.{needs}
-use Rattle.plans.specs.Places.{numberedTold, NumberWithin, runTold, RunWithin}
+use Rattle.fields.specs.Places.{numberedTold, NumberWithin, runTold, RunWithin}
 use Rattle.plans.proofs.Legs.{start-refused, run-refused, leg-taken}
 use Rattle.plans.proofs.reading.leg_at.Statement.{statement}
 use Rattle.plans.proofs.reading.leg_at.Tie as tie

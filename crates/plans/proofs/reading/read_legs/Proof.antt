@@ -40,8 +40,8 @@ returns c =
     let i = l .before .before in
     let n = i .before in
     let a = n .before .before in
-    leg-refused largest64 _ mostLegs (a .args .legs) 3 _ _ _ _ (i .loop .done) (i .loop .inv .2) (a .args .ports) _ (n .count-of .ensures) (c .refused .result) _ _
-    (l .before .loop-test .taken) (sym (ap (legTold _) (f .f .given .1)) ∙ l .leg-at .ensures .0) (c .refused .ensures)
+    leg-refused largest64 _ mostLegs (a .args .legs) 3 _ _ _ _ (i .loop .done) (i .loop .inv .2) (a .args .ports) _ (n .count-of .ensures)
+    (c .refused .result) _ _ (l .before .loop-test .taken) (sym (ap (legTold _) (f .f .given .1)) ∙ l .leg-at .ensures .0) (c .refused .ensures)
 
 loop-again : tie.Need-loop-again Inv-loop μ-loop
 loop-again c =
@@ -65,7 +65,8 @@ returns-2 c =
     let n = i .before in
     let a = n .before .before in
     let end : i .loop .done ≡ a .args .legs = omega (arith, t .before .loop-test .left, i .loop .inv .0) in
-    byte-after largest64 _ mostLegs (a .args .legs) 3 _ _ _ _ (i .loop .done) (i .loop .inv .2) (a .args .ports) _ (n .count-of .ensures) (c .refused2 .result) end
+    byte-after largest64 _ mostLegs (a .args .legs) 3 _ _ _ _ (i .loop .done) (i .loop .inv .2) (a .args .ports) _ (n .count-of .ensures)
+    (c .refused2 .result) end
     (omega (arith, length-drop (i .loop .at) (a .args .text .now), t .if1 .taken))
     (subst (λ f. Answers mostLegs (refusalOf f) (c .refused2 .result)) (c .before .at-line .ensures) (c .refused2 .ensures))
 

@@ -8,11 +8,10 @@ use borrow.Author.Needs.{needs}
 use Rattle.listing.specs.Limits.{mostLegs, largest64}
 use Rattle.words.specs.Told.{accepted}
 use Rattle.plans.specs.Grammar.{portsKey, legsKey}
-use Rattle.plans.specs.Reading.{fieldIn, portsField, legsField}
-use Rattle.plans.specs.Places.{numberedTold, NumberWithin}
+use Rattle.fields.specs.Places.{numberedTold, NumberWithin}
 use Rattle.plans.specs.Answers.{Answers}
 use Rattle.plans.specs.Calls.{device}
-use Rattle.plans.proofs.Legs.{number-accepted}
+use Rattle.fields.proofs.Numbers.{number-accepted}
 use Rattle.plans.proofs.Plans.{ports-refused, legs-line-refused, legs-decide}
 use Rattle.plans.proofs.reading.read_plan.Statement.{statement}
 use Rattle.plans.proofs.reading.read_plan.Tie as tie

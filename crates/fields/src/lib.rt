@@ -1,4 +1,4 @@
-// The lines of a plan: newline, key, number and value, in this order. A place in the text is the index of a byte; a line that is read ends before the next place.
+// One line of key=value from a place of a text on: newline, key, number and value, in this order. A place is the index of a byte.
 use decimals::Read;
 use decimals::ReadSigned;
 use decimals::reading::read_number;
@@ -13,10 +13,8 @@ ghost use mathlib.Core.Path.{_≡_};
 ghost use Prim.Native.Nat.{_≤_};
 ghost use lib.ListN.{length, drop};
 ghost use Rattle.words.specs.declared.Place.the-variants.{AtLine};
-ghost use Rattle.words.specs.Meaning.{numberOf};
-ghost use Rattle.listing.specs.Limits.{largest64};
-ghost use Rattle.plans.specs.Reading.{lineIn, between, fieldIn, unsigned, signed};
-ghost use Rattle.plans.specs.Places.{lineTold, LineWithin, numberedTold, NumberWithin, runTold, RunWithin};
+ghost use Rattle.fields.specs.Field.{lineIn, between, fieldIn};
+ghost use Rattle.fields.specs.Places.{numberKind, runKind, lineTold, LineWithin, numberedTold, NumberWithin, runTold, RunWithin};
 
 // The values that a line may have: from low on and below `below`. Any other is refused.
 pub struct Values {
@@ -85,7 +83,7 @@ fn line_at(text: &[u8], at: usize, key: &[u8], line: u8) -> Line
 // The line with a number that begins at a place.
 pub fn number_at(text: &[u8], at: usize, key: &[u8], values: Values, line: u8) -> Numbered
     requires { ⌜ at ≤ length (now text) ⌝ }
-    ensures told { λ r. ⌜ numberedTold (now (text .entry)) r ≡ fieldIn (unsigned largest64 (now (key .entry)) (values .low) (values .below) (numberOf (values .reason))) line (drop at (now (text .entry))) ⌝ }
+    ensures told { λ r. ⌜ numberedTold (now (text .entry)) r ≡ fieldIn (numberKind (now (key .entry)) values) line (drop at (now (text .entry))) ⌝ }
     ensures within { λ r. ⌜ NumberWithin (now (text .entry)) r ⌝ }
 {
     match line_at(text, at, key, line) {
@@ -106,7 +104,7 @@ pub fn number_at(text: &[u8], at: usize, key: &[u8], values: Values, line: u8) -
 // The line with a signed number that begins at a place.
 pub fn run_at(text: &[u8], at: usize, key: &[u8], values: Values, line: u8) -> Run
     requires { ⌜ at ≤ length (now text) ⌝ }
-    ensures told { λ r. ⌜ runTold (now (text .entry)) r ≡ fieldIn (signed largest64 (now (key .entry)) (values .low) (values .below) (numberOf (values .reason))) line (drop at (now (text .entry))) ⌝ }
+    ensures told { λ r. ⌜ runTold (now (text .entry)) r ≡ fieldIn (runKind (now (key .entry)) values) line (drop at (now (text .entry))) ⌝ }
     ensures within { λ r. ⌜ RunWithin (now (text .entry)) r ⌝ }
 {
     match line_at(text, at, key, line) {

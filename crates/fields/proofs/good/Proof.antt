@@ -1,8 +1,8 @@
--- `plans::fields::good`: a value below low is not good, and any other is if it is below `below`.
+-- `fields::good`: a value below low is not good, and any other is if it is below `below`.
 use mathlib.Core.Path.{sym}
-use Rattle.plans.proofs.Lines.{low-value, high-value}
-use Rattle.plans.proofs.fields.good.Statement.{statement}
-use Rattle.plans.proofs.fields.good.Tie as tie
+use Rattle.fields.proofs.Lines.{low-value, high-value}
+use Rattle.fields.proofs.good.Statement.{statement}
+use Rattle.fields.proofs.good.Tie as tie
 
 returns : tie.Need-returns
 returns c = sym (low-value _ _ _ (c .if1 .taken))

@@ -11,15 +11,14 @@ use Rattle.words.specs.Told.{Told, accepted, refused, atLine, then}
 use Rattle.texts.specs.Parts.{newline, firstOf, Parts, cut, after}
 use Rattle.texts.proofs.Cuts.{cut-joined, cut-parts}
 use Rattle.texts.proofs.Keys.{after-key, key-after}
-use Rattle.plans.specs.Grammar.{fieldText}
-use Rattle.plans.specs.Reading.{need, passed, lineIn, between, Field, Got, fieldIn}
-use Rattle.plans.proofs.Lines.{good-value, value-good}
+use Rattle.fields.specs.Field.{fieldText, need, passed, lineIn, between, Field, Got, fieldIn}
+use Rattle.fields.proofs.Lines.{good-value, value-good}
 
 -- ---- accepted steps
 
--- nothing is both accepted and refused
-pub refused-accepted : {A B : Type 0} (a : A) (k : ℕ) (line : ℕ) → refused k (atLine line) ≡ accepted a → B
-refused-accepted a k line e = absurd (true≢false (cc))
+-- what is accepted is one thing
+pub accepted-once : {A : Type 0} {x y : A} → accepted x ≡ accepted y → x ≡ y
+accepted-once e = cc
 
 -- a call that goes on: both it and the one before it were accepted
 pub record Both {A B : Type 0} (told : Told A) (go : A → Told B) (b : B) : Type 0 where
@@ -65,14 +64,11 @@ module _ {A : Type 0} (f : Field A) (line : ℕ) where
       let c = cut-parts newline t q (need-accepted 11 line (cut newline t) q (b .taken)) in
       let k = then-accepted (need 7 line (after (f .key) (q .front))) _ p (b .on) in
       let v = key-after (f .key) (q .front) (k .first) (need-accepted 7 line (after (f .key) (q .front)) (k .first) (k .taken)) in
-      let g : record { front = k .first; rest = q .rest } ≡ p = inner (k .on) in
+      let g : record { front = k .first; rest = q .rest } ≡ p = accepted-once (k .on) in
       c .whole
       ∙ ap (λ s. s ++ (newline ∷ q .rest)) v
       ∙ sym (field-joined (f .key) (k .first) (q .rest))
       ∙ ap (λ (r : Parts). fieldText (f .key) (r .front) ++ r .rest) g
-    where
-      inner : {x : Parts} → accepted x ≡ accepted p → x ≡ p
-      inner h = cc
 
   -- an accepted line is key, value and newline, the value a number, and a good one
   pub field-accepted : (t : List ℕ) (g : Got A) → fieldIn f line t ≡ accepted g → FieldOf f t g
@@ -97,4 +93,5 @@ module _ {A : Type 0} (f : Field A) (line : ℕ) where
       → fieldIn f line (fieldText (f .key) v ++ rest) ≡ accepted (record { value = a; rest = rest })
   unfolding fieldIn lineIn
   field-text v rest a clear number low below =
-      rw (field-joined (f .key) v rest, cut-joined newline (f .key ++ v) rest clear, after-key (f .key) v, number, good-value (f .low) (f .below) (f .size a) low below)
+      let good : between (f .low) (f .below) (f .size a) ≡ true = good-value (f .low) (f .below) (f .size a) low below in
+      rw (field-joined (f .key) v rest, cut-joined newline (f .key ++ v) rest clear, after-key (f .key) v, number, good)

@@ -1,4 +1,4 @@
--- `plans::fields::line_at` finds the newline and then the key: without the one it tells 11, without the other 7.
+-- `fields::line_at` finds the newline and then the key: without the one it tells 11, without the other 7.
 use mathlib.Core.Path.{_≡_, sym, ap, _∙_}
 use mathlib.Core.Option.{some}
 use native.Mathlib.Omega.{arith}
@@ -7,10 +7,10 @@ use lib.ListN.{length}
 use Rattle.words.specs.Meaning.{refusalOf}
 use Rattle.texts.specs.Parts.{newline, firstOf}
 use Rattle.texts.specs.Answers.{foundIs}
-use Rattle.plans.specs.Places.{part}
-use Rattle.plans.proofs.Lines.{line-open, line-within, key-missing, key-found, key-within}
-use Rattle.plans.proofs.fields.line_at.Statement.{statement}
-use Rattle.plans.proofs.fields.line_at.Tie as tie
+use Rattle.fields.specs.Places.{part}
+use Rattle.fields.proofs.Lines.{line-open, line-within, key-missing, key-found, key-within}
+use Rattle.fields.proofs.line_at.Statement.{statement}
+use Rattle.fields.proofs.line_at.Tie as tie
 
 add-to : tie.Need-add-to
 add-to c =
@@ -54,7 +54,8 @@ returns-3 c =
     let f = k .before .before .before in
     let a = f .before .before .before .before .args in
     let e = sym (ap foundIs (k .before .n .given .1)) ∙ f .find .ensures in
-    (ap refusalOf (c .at-line2 .ensures) ∙ key-missing (a .text .now) (a .at) (a .key .now) (a .line) _ e (sym (c .before .if1 .left) ∙ h .has-key .ensures), tt)
+    let g = sym (c .before .if1 .left) ∙ h .has-key .ensures in
+    (ap refusalOf (c .at-line2 .ensures) ∙ key-missing (a .text .now) (a .at) (a .key .now) (a .line) _ e g, tt)
 
 pub line-at-spec : {M : Type 1} → statement M
 line-at-spec =

@@ -1,13 +1,13 @@
--- `plans::fields::number_at` reads the value between the key and the newline: no number is 8, a value that is not good has the refusal of its kind.
+-- `fields::number_at` reads the value between the key and the newline: no number is 8, a value that is not good has the refusal of its kind.
 use mathlib.Core.Path.{_≡_, sym, ap, subst, _∙_}
 use native.Mathlib.Omega.{arith}
 use borrow.Author.Needs.{needs}
 use Rattle.words.specs.Meaning.{refusalOf}
 use Rattle.decimals.specs.Answers.{readIs}
-use Rattle.plans.specs.Places.{lineTold, LineWithin}
-use Rattle.plans.proofs.Lines.{field-refused, no-number, value-taken, value-refused}
-use Rattle.plans.proofs.fields.number_at.Statement.{statement}
-use Rattle.plans.proofs.fields.number_at.Tie as tie
+use Rattle.fields.specs.Places.{lineTold, LineWithin}
+use Rattle.fields.proofs.Lines.{field-refused, no-number, value-taken, value-refused}
+use Rattle.fields.proofs.number_at.Statement.{statement}
+use Rattle.fields.proofs.number_at.Tie as tie
 
 sub-read-number : tie.Need-sub-read-number
 sub-read-number c =

@@ -18,8 +18,8 @@ use Rattle.words.specs.Told.{Told, Spot, accepted, refused, atLine, then}
 use Rattle.texts.specs.Parts.{newline, firstOf, begins, Parts, around, cut, after}
 use Rattle.texts.proofs.Cuts.{cut-parts}
 use Rattle.texts.proofs.Keys.{begins-short}
-use Rattle.plans.specs.Reading.{need, passed, lineIn, between, Field, Got, fieldIn}
-use Rattle.plans.specs.Places.{part}
+use Rattle.fields.specs.Field.{need, passed, lineIn, between, Field, Got, fieldIn}
+use Rattle.fields.specs.Places.{part}
 
 -- ---- parts of a text
 
