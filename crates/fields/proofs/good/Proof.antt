@@ -5,10 +5,10 @@ use Rattle.fields.proofs.good.Statement.{statement}
 use Rattle.fields.proofs.good.Tie as tie
 
 returns : tie.Need-returns
-returns c = sym (low-value _ _ _ (c .if1 .taken))
+returns c = let a = c .before .before .args in sym (low-value (a .values .low) (a .values .below) (a .v) (c .if1 .taken))
 
 returns-2 : tie.Need-returns-2
-returns-2 c = sym (high-value _ _ _ (c .before .if1 .left))
+returns-2 c = let a = c .before .before .before .args in sym (high-value (a .values .low) (a .values .below) (a .v) (c .before .if1 .left))
 
 pub good-spec : {M : Type 1} → statement M
 good-spec = tie.close (tie.spec returns returns-2)
