@@ -1,24 +1,24 @@
 -- One line: what a reader may conclude from each step, in the paper's order. First for the newline and the key, by places in the text, then for the number and
 -- the value, for every kind of line.
 -- Assumes nothing.
-use mathlib.Core.Path.{_≡_, refl, sym, ap, _∙_}
-use mathlib.Core.Bool.{Bool, true, false, true≢false, cond, _&&_, and-eq-true-iff}
+use mathlib.Core.Path.{_≡_, sym, ap, _∙_}
+use mathlib.Core.Bool.{true, false, true≢false, and-eq-true-iff}
 use mathlib.Core.List.{List, [], _∷_, _++_}
-use mathlib.Core.Option.{Option, none, some}
+use mathlib.Core.Option.{none, some}
 use Prim.Native.Nat.{ℕ, zero, suc, _+_, _-_, _≤_, _<_}
 use native.Mathlib.Nat.{add-suc}
 use native.Mathlib.Numerals.{add-one}
 use native.Mathlib.Omega.{arith}
 use lib.Dec.{leb, ltb}
 use lib.ListN.{length, take, drop, length-append, length-drop}
-use lib.Seq.{take-all, take-nil, drop-nil, drop-drop, length-take-le}
+use lib.Seq.{take-all, take-nil, drop-drop, length-take-le}
 use borrow.Author.Tests.{le-leb, lt-leb, lt-ltb, leb-true, ltb-true}
 use Rattle.listing.proofs.Numbers.{either, below?}
-use Rattle.words.specs.Told.{Told, Spot, accepted, refused, atLine, then}
-use Rattle.texts.specs.Parts.{newline, firstOf, begins, Parts, around, cut, after}
+use Rattle.words.specs.Told.{Spot, accepted, refused, atLine}
+use Rattle.texts.specs.Parts.{newline, firstOf, begins, Parts, around}
 use Rattle.texts.proofs.Cuts.{cut-parts}
 use Rattle.texts.proofs.Keys.{begins-short}
-use Rattle.fields.specs.Field.{need, passed, lineIn, between, Field, Got, fieldIn}
+use Rattle.fields.specs.Field.{lineIn, between, Field, fieldIn}
 use Rattle.fields.specs.Places.{part}
 
 -- ---- parts of a text

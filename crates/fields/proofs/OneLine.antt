@@ -3,11 +3,11 @@
 -- Assumes nothing.
 use mathlib.Core.Path.{_≡_, refl, sym, ap, _∙_}
 use mathlib.Core.Bool.{Bool, true, false, true≢false}
-use mathlib.Core.List.{List, [], _∷_, _++_}
+use mathlib.Core.List.{List, _∷_, _++_}
 use mathlib.Core.Option.{Option, none, some}
 use Prim.Native.Nat.{ℕ, _≤_, _<_}
 use lib.Seq.{append-snoc}
-use Rattle.words.specs.Told.{Told, accepted, refused, atLine, then}
+use Rattle.words.specs.Told.{Told, accepted, refused, then}
 use Rattle.texts.specs.Parts.{newline, firstOf, Parts, cut, after}
 use Rattle.texts.proofs.Cuts.{cut-joined, cut-parts}
 use Rattle.texts.proofs.Keys.{after-key, key-after}

@@ -1,41 +1,40 @@
 -- What the readers of single lines answer: places in the text, as the texts that they cut off. A place past the end is not answered.
 -- Assumes nothing.
-use Prim.Native.Nat.{ℕ, suc, _+_, _-_, _≤_, _<_}
+use Prim.Native.Nat.{ℕ, _+_, _-_, _≤_, _<_}
 use mathlib.Core.List.{List}
 use lib.ListN.{length, take, drop}
-use Rattle.listing.specs.Limits.{largest64}
 use Rattle.words.specs.Told.{Told, accepted}
 use Rattle.words.specs.Meaning.{numberOf, refusalOf}
 use Rattle.texts.specs.Parts.{Parts}
 use Rattle.decimals.specs.Signed.{Signed, ahead, behind}
 use Rattle.fields.specs.Field.{Field, Got, unsigned, signed}
 use Rattle.fields.specs.declared.Values.{Values}
-use Rattle.fields.specs.declared.Line.{Line}
-use Rattle.fields.specs.declared.Line.the-variants.{Value, Refused as Line-Refused}
+use Rattle.fields.specs.declared.Bounds.{Bounds}
+use Rattle.fields.specs.declared.Bounds.the-variants.{Value, Refused as Bounds-Refused}
 use Rattle.fields.specs.declared.Numbered.{Numbered}
 use Rattle.fields.specs.declared.Numbered.the-variants.{Number, Refused as Number-Refused}
 use Rattle.fields.specs.declared.Run.{Run}
 use Rattle.fields.specs.declared.Run.the-variants.{Ahead, Behind, Refused as Run-Refused}
 
--- the kind of line that a key and values say, with numbers of 64 bits
-abbrev pub numberKind : List ℕ → Values → Field ℕ
-numberKind key values = unsigned largest64 key (values .low) (values .below) (numberOf (values .reason))
+-- the kind of line that a key and values say
+abbrev pub numberKind : ℕ → List ℕ → Values → Field ℕ
+numberKind largest key values = unsigned largest key (values .low) (values .below) (numberOf (values .reason))
 
-abbrev pub runKind : List ℕ → Values → Field Signed
-runKind key values = signed largest64 key (values .low) (values .below) (numberOf (values .reason))
+abbrev pub runKind : ℕ → List ℕ → Values → Field Signed
+runKind largest key values = signed largest key (values .low) (values .below) (numberOf (values .reason))
 
 -- the bytes of t from place a up to place b
 abbrev pub part : ℕ → ℕ → List ℕ → List ℕ
 part a b t = take (b - a) (drop a t)
 
 -- a line's value, and the text after its newline
-abbrev pub lineTold : List ℕ → Line → Told Parts
-lineTold t (Value from to) = accepted (record { front = part from to t; rest = drop (to + 1) t })
-lineTold t (Line-Refused f) = refusalOf f
+abbrev pub boundsTold : List ℕ → Bounds → Told Parts
+boundsTold t (Value from to) = accepted (record { front = part from to t; rest = drop (to + 1) t })
+boundsTold t (Bounds-Refused f) = refusalOf f
 
-abbrev pub LineWithin : List ℕ → Line → Type 0
-LineWithin t (Value from to) = (from ≤ to) × (to < length t)
-LineWithin t (Line-Refused f) = Unit {0}
+abbrev pub BoundsWithin : List ℕ → Bounds → Type 0
+BoundsWithin t (Value from to) = (from ≤ to) × (to < length t)
+BoundsWithin t (Bounds-Refused f) = Unit {0}
 
 -- a number, and the text from the place after the line on
 abbrev pub numberedTold : List ℕ → Numbered → Told (Got ℕ)

@@ -13,8 +13,9 @@ ghost use mathlib.Core.Path.{_≡_};
 ghost use Prim.Native.Nat.{_≤_};
 ghost use lib.ListN.{length, drop};
 ghost use Rattle.words.specs.declared.Place.the-variants.{AtLine};
+ghost use Rattle.listing.specs.Limits.{largest64};
 ghost use Rattle.fields.specs.Field.{lineIn, between, fieldIn};
-ghost use Rattle.fields.specs.Places.{numberKind, runKind, lineTold, LineWithin, numberedTold, NumberWithin, runTold, RunWithin};
+ghost use Rattle.fields.specs.Places.{numberKind, runKind, boundsTold, BoundsWithin, numberedTold, NumberWithin, runTold, RunWithin};
 
 // The values that a line may have: from low on and below `below`. Any other is refused.
 pub struct Values {
@@ -23,8 +24,8 @@ pub struct Values {
     pub reason: Reason,
 }
 
-// A line: the place of its value and the place of its newline.
-pub enum Line {
+// The bounds of a line's value: its place, and the place of the newline.
+pub enum Bounds {
     Value(usize, usize),
     Refused(Refusal),
 }
@@ -62,20 +63,20 @@ fn good(values: Values, v: u64) -> bool
     v < values.below
 }
 
-// The line that begins at a place: newline and key.
-fn line_at(text: &[u8], at: usize, key: &[u8], line: u8) -> Line
+// The bounds of the value in the line that begins at a place: newline and key.
+fn line_at(text: &[u8], at: usize, key: &[u8], line: u8) -> Bounds
     requires { ⌜ at ≤ length (now text) ⌝ }
-    ensures told { λ r. ⌜ lineTold (now (text .entry)) r ≡ lineIn (now (key .entry)) line (drop at (now (text .entry))) ⌝ }
-    ensures within { λ r. ⌜ LineWithin (now (text .entry)) r ⌝ }
+    ensures told { λ r. ⌜ boundsTold (now (text .entry)) r ≡ lineIn (now (key .entry)) line (drop at (now (text .entry))) ⌝ }
+    ensures within { λ r. ⌜ BoundsWithin (now (text .entry)) r ⌝ }
 {
     match find(&text[at..], 10) {
-        Found::Nowhere => Line::Refused(at_line(Reason::Ended, line)),
+        Found::Nowhere => Bounds::Refused(at_line(Reason::Ended, line)),
         Found::At(n) => {
             let to = at + n;
             if has_key(&text[at..to], key) {
-                return Line::Value(at + key.len(), to);
+                return Bounds::Value(at + key.len(), to);
             }
-            Line::Refused(at_line(Reason::Key, line))
+            Bounds::Refused(at_line(Reason::Key, line))
         }
     }
 }
@@ -83,12 +84,12 @@ fn line_at(text: &[u8], at: usize, key: &[u8], line: u8) -> Line
 // The line with a number that begins at a place.
 pub fn number_at(text: &[u8], at: usize, key: &[u8], values: Values, line: u8) -> Numbered
     requires { ⌜ at ≤ length (now text) ⌝ }
-    ensures told { λ r. ⌜ numberedTold (now (text .entry)) r ≡ fieldIn (numberKind (now (key .entry)) values) line (drop at (now (text .entry))) ⌝ }
+    ensures told { λ r. ⌜ numberedTold (now (text .entry)) r ≡ fieldIn (numberKind largest64 (now (key .entry)) values) line (drop at (now (text .entry))) ⌝ }
     ensures within { λ r. ⌜ NumberWithin (now (text .entry)) r ⌝ }
 {
     match line_at(text, at, key, line) {
-        Line::Refused(f) => Numbered::Refused(f),
-        Line::Value(from, to) => match read_number(&text[from..to]) {
+        Bounds::Refused(f) => Numbered::Refused(f),
+        Bounds::Value(from, to) => match read_number(&text[from..to]) {
             Read::Bad => Numbered::Refused(at_line(Reason::Number, line)),
             Read::Number(v) => {
                 if good(values, v) {
@@ -104,12 +105,12 @@ pub fn number_at(text: &[u8], at: usize, key: &[u8], values: Values, line: u8) -
 // The line with a signed number that begins at a place.
 pub fn run_at(text: &[u8], at: usize, key: &[u8], values: Values, line: u8) -> Run
     requires { ⌜ at ≤ length (now text) ⌝ }
-    ensures told { λ r. ⌜ runTold (now (text .entry)) r ≡ fieldIn (runKind (now (key .entry)) values) line (drop at (now (text .entry))) ⌝ }
+    ensures told { λ r. ⌜ runTold (now (text .entry)) r ≡ fieldIn (runKind largest64 (now (key .entry)) values) line (drop at (now (text .entry))) ⌝ }
     ensures within { λ r. ⌜ RunWithin (now (text .entry)) r ⌝ }
 {
     match line_at(text, at, key, line) {
-        Line::Refused(f) => Run::Refused(f),
-        Line::Value(from, to) => match read_signed(&text[from..to]) {
+        Bounds::Refused(f) => Run::Refused(f),
+        Bounds::Value(from, to) => match read_signed(&text[from..to]) {
             ReadSigned::Bad => Run::Refused(at_line(Reason::Number, line)),
             ReadSigned::Ahead(m) => {
                 if good(values, m) {

@@ -9,7 +9,7 @@ use native.Mathlib.Numerals.{add-one}
 use native.Mathlib.Omega.{arith}
 use lib.ListN.{length}
 use Rattle.promise.specs.Plan.{Leg}
-use Rattle.words.specs.Told.{Told, Spot, accepted, refused, then}
+use Rattle.words.specs.Told.{Spot, accepted, refused}
 use Rattle.texts.specs.Parts.{firstOf}
 use Rattle.decimals.specs.Decimal.{digitsOf}
 use Rattle.decimals.specs.Signed.{Signed, ahead, behind, magnitude, Proper, signedDigits}
@@ -17,7 +17,7 @@ use Rattle.fields.specs.Field.{fieldText, Got, fieldIn}
 use Rattle.fields.proofs.OneLine.{then-accepted, accepted-once}
 use Rattle.fields.proofs.Numbers.{number-text, number-accepted, signed-text, signed-accepted}
 use Rattle.plans.specs.Grammar.{startKey, runKey, runOf, legText, legsText, LegFits, EachFits}
-use Rattle.plans.specs.Reading.{startField, runField, legBy, legIn, ended, preceded, legsIn}
+use Rattle.plans.specs.Reading.{startField, runField, legBy, legIn, preceded, legsIn}
 
 -- ---- a leg by its start and its run
 

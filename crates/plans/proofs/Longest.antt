@@ -1,7 +1,7 @@
 -- How long the text of a plan is, and how many marks a plan has. Bounds over the limits (`text-bounded`, `marks-bounded`), at the device with 20 ports
 -- (`text-801`, `marks-most`), and one plan that attains both (`longest`).
 -- Assumes nothing.
-use mathlib.Core.Path.{_≡_, refl, sym, ap, subst, _∙_}
+use mathlib.Core.Path.{_≡_, ap, _∙_}
 use mathlib.Core.Bool.{Bool, true, false, cond}
 use mathlib.Core.List.{List, [], _∷_, _++_}
 use Prim.Native.Nat.{ℕ, zero, suc, _+_, _*_, _≤_, _<_}
@@ -14,7 +14,7 @@ use Rattle.listing.proofs.Limits.{count-20, most-marks}
 use Rattle.promise.specs.Plan.{Leg, marks}
 use Rattle.words.specs.Told.{accepted}
 use Rattle.decimals.specs.Decimal.{digitsOf}
-use Rattle.decimals.specs.Signed.{Signed, ahead, behind, signedDigits}
+use Rattle.decimals.specs.Signed.{ahead, behind, signedDigits}
 use Rattle.decimals.proofs.Lengths.{digits-at-most, digits-above, digits-no-fewer}
 use Rattle.fields.specs.Field.{fieldText}
 use Rattle.plans.specs.Grammar.{Planned, Limits, Wide, portsKey, legsKey, startKey, runKey, runOf, legText, legsText, planText, LegFits, EachFits, Fits}

@@ -2,16 +2,16 @@
 -- fits (`accepted-fits`). So a plan has one text, and a text is of one plan. Before them, what a reader concludes from the first two lines.
 -- Assumes nothing.
 use mathlib.Core.Path.{_≡_, refl, sym, ap, _∙_}
-use mathlib.Core.List.{List, [], _∷_, _++_, append-assoc}
-use Prim.Native.Nat.{ℕ, zero, suc, _+_, _≤_, _<_}
+use mathlib.Core.List.{List, [], _∷_, _++_}
+use Prim.Native.Nat.{ℕ, zero, suc, _≤_, _<_}
 use native.Mathlib.Nat.{le-trans}
 use native.Mathlib.Omega.{arith}
 use lib.ListN.{length}
 use Rattle.listing.specs.Count.{count}
 use Rattle.listing.proofs.Counts.{count-grows}
 use Rattle.promise.specs.Plan.{Leg, legAt}
-use Rattle.words.specs.Told.{Told, Spot, accepted, refused, then}
-use Rattle.texts.specs.Parts.{newline, firstOf}
+use Rattle.words.specs.Told.{Spot, accepted, refused}
+use Rattle.texts.specs.Parts.{firstOf}
 use Rattle.decimals.specs.Decimal.{digitsOf}
 use Rattle.fields.specs.Field.{fieldText, Got, fieldIn}
 use Rattle.fields.proofs.OneLine.{then-accepted, accepted-once}

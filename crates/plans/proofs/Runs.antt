@@ -5,14 +5,15 @@ use mathlib.Core.Bool.{Bool, true, false}
 use mathlib.Core.List.{List, [], _∷_, _++_, map}
 use Prim.Native.Nat.{ℕ, zero, suc, _-_, _≤_, _<_}
 use native.Mathlib.Omega.{arith}
-use lib.IntN.{ℤ, pos, negsuc, negℤ, _-ℤ_, +ℤ-idl}
+use lib.IntN.{ℤ, pos, negℤ, _-ℤ_, +ℤ-idl}
 use lib.ListN.{length, replicate}
 use mir.Syntax.{w64}
 use mir.Val.{SFits, toZ, ofZ}
 use mir.ValLaws.{toZ-pos, toZ-ofZ}
 use Rattle.promise.specs.Plan.{Leg}
-use Rattle.plans.specs.Grammar.{Planned, Limits, LegFits, EachFits, Fits}
-use Rattle.plans.specs.Answers.{signedRun, padded, placed, legHeld, legsHeld, plannedOf}
+use Rattle.words.specs.Told.{accepted}
+use Rattle.plans.specs.Grammar.{Planned, Limits, EachFits, Fits}
+use Rattle.plans.specs.Answers.{signedRun, placed, heldOf, legHeld, legsHeld, plannedOf}
 
 -- ---- a magnitude below 2^63
 
@@ -59,8 +60,8 @@ held-legs size (l ∷ ls) xs ys h =
     (held-leg (l .start) (l .back) (l .run) (h .0 .behind))
     ∙ ap (λ x. l ∷ x) (held-legs size ls xs ys (h .1))
 
--- the places of a plan that fits hold that plan
-pub held-planned : (most : Limits) (places : ℕ) (p : Planned) → Fits most p → plannedOf (placed places p) ≡ p
+-- the places of an accepted plan that fits hold that plan: nothing is lost
+pub held-planned : (most : Limits) (places : ℕ) (p : Planned) → Fits most p → plannedOf (heldOf places (accepted p)) ≡ p
 unfolding placed
 held-planned most places p h =
     let xs = map (λ l. l .start) (p .legs) in

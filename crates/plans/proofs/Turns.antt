@@ -3,14 +3,14 @@
 -- Assumes nothing.
 use mathlib.Core.Path.{_≡_, refl, sym, ap, _∙_}
 use mathlib.Core.List.{List, [], _∷_, _++_, map, append-assoc, append-nil, map-append}
-use Prim.Native.Nat.{ℕ, zero, suc, _+_, _-_, _*_, _≤_, _<_}
+use Prim.Native.Nat.{ℕ, suc, _+_, _-_, _*_, _≤_, _<_}
 use native.Mathlib.Numerals.{add-one}
 use native.Mathlib.Omega.{arith}
 use lib.IntN.{ℤ, pos}
 use lib.ListN.{length, set, replicate, length-append, length-map, length-replicate}
 use lib.Seq.{set-at, append-snoc}
 use Rattle.promise.specs.Plan.{Leg}
-use Rattle.words.specs.Told.{Told, Spot, accepted, refused, atLine, then}
+use Rattle.words.specs.Told.{Told, Spot, accepted, refused, atLine}
 use Rattle.fields.specs.Field.{Got}
 use Rattle.plans.specs.Reading.{legIn, ended, preceded, legsIn, withPorts}
 use Rattle.plans.specs.Answers.{signedRun, padded, placed, Answers}

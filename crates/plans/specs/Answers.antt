@@ -1,11 +1,11 @@
 -- What the answers say: the plan that the places of a `Plan` hold, the places that a plan is held in, and what a text was judged to be.
 -- Assumes nothing.
-use Prim.Native.Nat.{ℕ, zero, suc, _-_, _<_}
+use Prim.Native.Nat.{ℕ, zero, suc, _-_}
 use mathlib.Core.Path.{_≡_}
 use mathlib.Core.Bool.{Bool, true, false, cond}
 use mathlib.Core.List.{List, [], _∷_, _++_, map}
 use lib.IntN.{ℤ, pos, negsuc, negℤ}
-use lib.ListN.{length, getD, replicate}
+use lib.ListN.{length, replicate}
 use Rattle.promise.specs.Plan.{Leg}
 use Rattle.words.specs.Told.{Told, accepted, refused, then}
 use Rattle.words.specs.Meaning.{refusalOf}

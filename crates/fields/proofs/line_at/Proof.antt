@@ -1,13 +1,9 @@
 -- `fields::line_at` finds the newline and then the key: without the one it tells 11, without the other 7.
-use mathlib.Core.Path.{_≡_, sym, ap, _∙_}
-use mathlib.Core.Option.{some}
+use mathlib.Core.Path.{sym, ap, _∙_}
 use native.Mathlib.Omega.{arith}
 use borrow.Author.Needs.{needs}
-use lib.ListN.{length}
 use Rattle.words.specs.Meaning.{refusalOf}
-use Rattle.texts.specs.Parts.{newline, firstOf}
 use Rattle.texts.specs.Answers.{foundIs}
-use Rattle.fields.specs.Places.{part}
 use Rattle.fields.proofs.Lines.{line-open, line-within, key-missing, key-found, key-within}
 use Rattle.fields.proofs.line_at.Statement.{statement}
 use Rattle.fields.proofs.line_at.Tie as tie

@@ -1,10 +1,10 @@
 -- `fields::number_at` reads the value between the key and the newline: no number is 8, a value that is not good has the refusal of its kind.
-use mathlib.Core.Path.{_≡_, sym, ap, subst, _∙_}
+use mathlib.Core.Path.{sym, ap, subst, _∙_}
 use native.Mathlib.Omega.{arith}
 use borrow.Author.Needs.{needs}
 use Rattle.words.specs.Meaning.{refusalOf}
 use Rattle.decimals.specs.Answers.{readIs}
-use Rattle.fields.specs.Places.{lineTold, LineWithin}
+use Rattle.fields.specs.Places.{boundsTold, BoundsWithin}
 use Rattle.fields.proofs.Lines.{field-refused, no-number, value-taken, value-refused}
 use Rattle.fields.proofs.number_at.Statement.{statement}
 use Rattle.fields.proofs.number_at.Tie as tie
@@ -12,26 +12,26 @@ use Rattle.fields.proofs.number_at.Tie as tie
 sub-read-number : tie.Need-sub-read-number
 sub-read-number c =
     let l = c .before .before .before in
-    let w = subst (LineWithin _) (c .before .from .given .1) (l .line-at .ensures .1) in
+    let w = subst (BoundsWithin _) (c .before .from .given .1) (l .line-at .ensures .1) in
     omega arith
 
 part-read-number-start : tie.Need-part-read-number-start
 part-read-number-start c =
     let l = c .before .before .before in
-    let w = subst (LineWithin _) (c .before .from .given .1) (l .line-at .ensures .1) in
+    let w = subst (BoundsWithin _) (c .before .from .given .1) (l .line-at .ensures .1) in
     omega arith
 
 part-read-number-end : tie.Need-part-read-number-end
 part-read-number-end c =
     let l = c .before .before .before in
-    let w = subst (LineWithin _) (c .before .from .given .1) (l .line-at .ensures .1) in
+    let w = subst (BoundsWithin _) (c .before .from .given .1) (l .line-at .ensures .1) in
     omega arith
 
 add-t22 : tie.Need-add-t22
 add-t22 c =
     let k = c .before .before .before .before .before .before .before in
     let l = k .before .before .before in
-    let w = subst (LineWithin _) (k .before .from .given .1) (l .line-at .ensures .1) in
+    let w = subst (BoundsWithin _) (k .before .from .given .1) (l .line-at .ensures .1) in
     omega arith
 
 returns : tie.Need-returns
@@ -39,20 +39,20 @@ returns c =
     let d = c .before .before .before in
     let k = d .before .before .before .before in
     let l = k .before .before .before in
-    let w = subst (LineWithin _) (k .before .from .given .1) (l .line-at .ensures .1) in
-    let e = sym (ap (lineTold _) (k .before .from .given .1)) ∙ l .line-at .ensures .0 in
+    let w = subst (BoundsWithin _) (k .before .from .given .1) (l .line-at .ensures .1) in
+    let e = sym (ap (boundsTold _) (k .before .from .given .1)) ∙ l .line-at .ensures .0 in
     let g = sym (ap readIs (d .v .given .1)) ∙ d .before .before .read-number .ensures in
     (value-taken _ _ _ _ e _ g (sym (c .if1 .taken) ∙ c .before .good2 .ensures), omega arith)
 
 returns-2 : tie.Need-returns-2
-returns-2 c = let l = c .before .before .before in (field-refused _ _ _ _ _ (sym (ap (lineTold _) (c .before .f .given .1)) ∙ l .line-at .ensures .0), tt)
+returns-2 c = let l = c .before .before .before in (field-refused _ _ _ _ _ (sym (ap (boundsTold _) (c .before .f .given .1)) ∙ l .line-at .ensures .0), tt)
 
 returns-3 : tie.Need-returns-3
 returns-3 c =
     let d = c .before in
     let k = d .before .before .before .before in
     let l = k .before .before .before in
-    let e = sym (ap (lineTold _) (k .before .from .given .1)) ∙ l .line-at .ensures .0 in
+    let e = sym (ap (boundsTold _) (k .before .from .given .1)) ∙ l .line-at .ensures .0 in
     let g = sym (ap readIs (d .enum-told .given .1)) ∙ d .before .before .read-number .ensures in
     (ap refusalOf (c .at-line .ensures) ∙ no-number _ _ _ _ e g, tt)
 
@@ -62,7 +62,7 @@ returns-4 c =
     let d = i .before .before .before in
     let k = d .before .before .before .before in
     let l = k .before .before .before in
-    let e = sym (ap (lineTold _) (k .before .from .given .1)) ∙ l .line-at .ensures .0 in
+    let e = sym (ap (boundsTold _) (k .before .from .given .1)) ∙ l .line-at .ensures .0 in
     let g = sym (ap readIs (d .v .given .1)) ∙ d .before .before .read-number .ensures in
     (ap refusalOf (c .at-line2 .ensures) ∙ value-refused _ _ _ _ e _ g (sym (i .if1 .left) ∙ i .before .good2 .ensures), tt)
 

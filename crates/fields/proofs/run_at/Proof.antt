@@ -1,10 +1,10 @@
 -- `fields::run_at` reads the value between the key and the newline: no number is 8, a value that is not good has the refusal of its kind.
-use mathlib.Core.Path.{_≡_, sym, ap, subst, _∙_}
+use mathlib.Core.Path.{sym, ap, subst, _∙_}
 use native.Mathlib.Omega.{arith}
 use borrow.Author.Needs.{needs}
 use Rattle.words.specs.Meaning.{refusalOf}
 use Rattle.decimals.specs.Answers.{signedIs}
-use Rattle.fields.specs.Places.{lineTold, LineWithin}
+use Rattle.fields.specs.Places.{boundsTold, BoundsWithin}
 use Rattle.fields.proofs.Lines.{field-refused, no-number, value-taken, value-refused}
 use Rattle.fields.proofs.run_at.Statement.{statement}
 use Rattle.fields.proofs.run_at.Tie as tie
@@ -12,26 +12,26 @@ use Rattle.fields.proofs.run_at.Tie as tie
 sub-read-signed : tie.Need-sub-read-signed
 sub-read-signed c =
     let l = c .before .before .before in
-    let w = subst (LineWithin _) (c .before .from .given .1) (l .line-at .ensures .1) in
+    let w = subst (BoundsWithin _) (c .before .from .given .1) (l .line-at .ensures .1) in
     omega arith
 
 part-read-signed-start : tie.Need-part-read-signed-start
 part-read-signed-start c =
     let l = c .before .before .before in
-    let w = subst (LineWithin _) (c .before .from .given .1) (l .line-at .ensures .1) in
+    let w = subst (BoundsWithin _) (c .before .from .given .1) (l .line-at .ensures .1) in
     omega arith
 
 part-read-signed-end : tie.Need-part-read-signed-end
 part-read-signed-end c =
     let l = c .before .before .before in
-    let w = subst (LineWithin _) (c .before .from .given .1) (l .line-at .ensures .1) in
+    let w = subst (BoundsWithin _) (c .before .from .given .1) (l .line-at .ensures .1) in
     omega arith
 
 add-t24 : tie.Need-add-t24
 add-t24 c =
     let k = c .before .before .before .before .before .before .before in
     let l = k .before .before .before in
-    let w = subst (LineWithin _) (k .before .from .given .1) (l .line-at .ensures .1) in
+    let w = subst (BoundsWithin _) (k .before .from .given .1) (l .line-at .ensures .1) in
     omega arith
 
 returns : tie.Need-returns
@@ -39,8 +39,8 @@ returns c =
     let d = c .before .before .before in
     let k = d .before .before .before .before in
     let l = k .before .before .before in
-    let w = subst (LineWithin _) (k .before .from .given .1) (l .line-at .ensures .1) in
-    let e = sym (ap (lineTold _) (k .before .from .given .1)) ∙ l .line-at .ensures .0 in
+    let w = subst (BoundsWithin _) (k .before .from .given .1) (l .line-at .ensures .1) in
+    let e = sym (ap (boundsTold _) (k .before .from .given .1)) ∙ l .line-at .ensures .0 in
     let g = sym (ap signedIs (d .m .given .1)) ∙ d .before .before .read-signed .ensures in
     (value-taken _ _ _ _ e _ g (sym (c .if1 .taken) ∙ c .before .good2 .ensures), omega arith)
 
@@ -48,7 +48,7 @@ add-t27 : tie.Need-add-t27
 add-t27 c =
     let k = c .before .before .before .before .before .before .before in
     let l = k .before .before .before in
-    let w = subst (LineWithin _) (k .before .from .given .1) (l .line-at .ensures .1) in
+    let w = subst (BoundsWithin _) (k .before .from .given .1) (l .line-at .ensures .1) in
     omega arith
 
 returns-2 : tie.Need-returns-2
@@ -56,20 +56,20 @@ returns-2 c =
     let d = c .before .before .before in
     let k = d .before .before .before .before in
     let l = k .before .before .before in
-    let w = subst (LineWithin _) (k .before .from .given .1) (l .line-at .ensures .1) in
-    let e = sym (ap (lineTold _) (k .before .from .given .1)) ∙ l .line-at .ensures .0 in
+    let w = subst (BoundsWithin _) (k .before .from .given .1) (l .line-at .ensures .1) in
+    let e = sym (ap (boundsTold _) (k .before .from .given .1)) ∙ l .line-at .ensures .0 in
     let g = sym (ap signedIs (d .m2 .given .1)) ∙ d .before .before .read-signed .ensures in
     (value-taken _ _ _ _ e _ g (sym (c .if2 .taken) ∙ c .before .good3 .ensures), omega arith)
 
 returns-3 : tie.Need-returns-3
-returns-3 c = let l = c .before .before .before in (field-refused _ _ _ _ _ (sym (ap (lineTold _) (c .before .f .given .1)) ∙ l .line-at .ensures .0), tt)
+returns-3 c = let l = c .before .before .before in (field-refused _ _ _ _ _ (sym (ap (boundsTold _) (c .before .f .given .1)) ∙ l .line-at .ensures .0), tt)
 
 returns-4 : tie.Need-returns-4
 returns-4 c =
     let d = c .before in
     let k = d .before .before .before .before in
     let l = k .before .before .before in
-    let e = sym (ap (lineTold _) (k .before .from .given .1)) ∙ l .line-at .ensures .0 in
+    let e = sym (ap (boundsTold _) (k .before .from .given .1)) ∙ l .line-at .ensures .0 in
     let g = sym (ap signedIs (d .enum-told .given .1)) ∙ d .before .before .read-signed .ensures in
     (ap refusalOf (c .at-line .ensures) ∙ no-number _ _ _ _ e g, tt)
 
@@ -79,7 +79,7 @@ returns-5 c =
     let d = i .before .before .before in
     let k = d .before .before .before .before in
     let l = k .before .before .before in
-    let e = sym (ap (lineTold _) (k .before .from .given .1)) ∙ l .line-at .ensures .0 in
+    let e = sym (ap (boundsTold _) (k .before .from .given .1)) ∙ l .line-at .ensures .0 in
     let g = sym (ap signedIs (d .m .given .1)) ∙ d .before .before .read-signed .ensures in
     (ap refusalOf (c .at-line2 .ensures) ∙ value-refused _ _ _ _ e _ g (sym (i .if1 .left) ∙ i .before .good2 .ensures), tt)
 
@@ -89,7 +89,7 @@ returns-6 c =
     let d = i .before .before .before in
     let k = d .before .before .before .before in
     let l = k .before .before .before in
-    let e = sym (ap (lineTold _) (k .before .from .given .1)) ∙ l .line-at .ensures .0 in
+    let e = sym (ap (boundsTold _) (k .before .from .given .1)) ∙ l .line-at .ensures .0 in
     let g = sym (ap signedIs (d .m2 .given .1)) ∙ d .before .before .read-signed .ensures in
     (ap refusalOf (c .at-line3 .ensures) ∙ value-refused _ _ _ _ e _ g (sym (i .if2 .left) ∙ i .before .good3 .ensures), tt)
 

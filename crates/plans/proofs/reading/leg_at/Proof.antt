@@ -1,6 +1,6 @@
 -- `plans::reading::leg_at` reads the start's line and then the run's, which has the next number, and passes a refusal of either on.
 use mathlib.Core.Path.{_≡_, sym, ap, subst, _∙_}
-use native.Mathlib.Omega.{arith}
+use Prim.Native.Nat.{ℕ}
 use lib.ListN.{drop}
 use borrow.Author.Needs.{needs}
 use Rattle.listing.specs.Limits.{largest64}
@@ -17,8 +17,8 @@ use Rattle.plans.proofs.reading.leg_at.Tie as tie
 started : (c : tie.After-known-told2)
     → let s = c .before .start .given .0 in
     let a = c .before .before .before .before .before .before .args in
-    accepted (record { value = s .0; rest = drop (s .1 .0) (a .text .now) })
-    ≡ fieldIn (startField largest64 (a .count)) (a .line) (drop (a .at) (a .text .now))
+    accepted (record { value = s .0; rest = drop {A = ℕ} (s .1 .0) (a .text .now) })
+    ≡ fieldIn (startField largest64 (a .count)) (a .line) (drop {A = ℕ} (a .at) (a .text .now))
 started c = sym (ap (numberedTold _) (c .before .start .given .1)) ∙ c .before .before .before .number-at .ensures .0
 
 run-at-requires : tie.Need-run-at-requires
