@@ -6,14 +6,14 @@ use mathlib.Core.List.{List, [], _∷_, _++_, map}
 use Prim.Native.Nat.{ℕ, zero, suc, _-_, _≤_, _<_}
 use native.Mathlib.Omega.{arith}
 use lib.IntN.{ℤ, pos, negℤ, _-ℤ_, +ℤ-idl}
-use lib.ListN.{length, replicate}
+use lib.ListN.{length, replicate, length-append, length-map, length-replicate}
 use mir.Syntax.{w64}
 use mir.Val.{SFits, toZ, ofZ}
 use mir.ValLaws.{toZ-pos, toZ-ofZ}
 use Rattle.promise.specs.Plan.{Leg}
 use Rattle.words.specs.Told.{accepted}
 use Rattle.plans.specs.Grammar.{Planned, Limits, EachFits, Fits}
-use Rattle.plans.specs.Answers.{signedRun, placed, heldOf, legHeld, legsHeld, plannedOf}
+use Rattle.plans.specs.Answers.{signedRun, padded, placed, heldOf, legHeld, legsHeld, plannedOf}
 
 -- ---- a magnitude below 2^63
 
@@ -68,3 +68,18 @@ held-planned most places p h =
     let ys = map (λ l. signedRun (l .back) (l .run)) (p .legs) in
     let e = held-legs _ (p .legs) (replicate (places - length xs) 0) (replicate (places - length ys) (pos 0)) (h .each) in
     λ i. record { ports = p .ports; legs = e i }
+
+-- a list in places has as many entries as there are places
+padded-length : {A : Type 0} (most : ℕ) (z : A) (l : List A) → length l ≤ most → length (padded most z l) ≡ most
+padded-length most z l h = length-append l (replicate (most - length l) z) ∙ (let e = length-replicate (most - length l) z in omega arith)
+
+-- they are as many as the most legs
+pub held-places : (most : ℕ) (p : Planned) → length (p .legs) ≤ most
+    → let held = heldOf most (accepted p) in (length (held .starts) ≡ most) × (length (held .runs) ≡ most)
+unfolding placed
+held-places most p h =
+    let xs = map (λ l. l .start) (p .legs) in
+    let ys = map (λ l. signedRun (l .back) (l .run)) (p .legs) in (
+      padded-length most 0 xs (omega (arith, length-map (p .legs) (λ l. l .start))),
+      padded-length most (pos 0) ys (omega (arith, length-map (p .legs) (λ l. signedRun (l .back) (l .run)))),
+    )

@@ -20,10 +20,6 @@ use Rattle.plans.proofs.Legs.{legs-on, legs-refused}
 
 -- ---- places
 
--- a list in places has as many entries as there are places
-pub padded-length : {A : Type 0} (most : ℕ) (z : A) (l : List A) → length l ≤ most → length (padded most z l) ≡ most
-padded-length most z l h = length-append l (replicate (most - length l) z) ∙ (let e = length-replicate (most - length l) z in omega arith)
-
 -- the first place that is 0 gets the next entry
 pub padded-set : {A : Type 0} (most : ℕ) (z v : A) (l : List A) → length l < most → set (padded most z l) (length l) v ≡ padded most z (l ++ (v ∷ []))
 padded-set {A} most z v l h =

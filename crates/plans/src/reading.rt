@@ -57,20 +57,20 @@ fn leg_at(text: &[u8], at: usize, count: u64, line: u8) -> LegRead
     ensures told { λ r. ⌜ legTold (now (text .entry)) r ≡ legIn largest64 count line (drop at (now (text .entry))) ⌝ }
     ensures within { λ r. ⌜ LegWithin (now (text .entry)) r ⌝ }
 {
-    let ranks = Values {
+    let good_starts = Values {
         low: 0,
         below: count,
         reason: Reason::Rank,
     };
-    match number_at(text, at, b"start=", ranks, line) {
+    match number_at(text, at, b"start=", good_starts, line) {
         Numbered::Refused(f) => LegRead::Refused(f),
         Numbered::Number(start, next) => {
-            let runs = Values {
+            let good_runs = Values {
                 low: 0,
                 below: count,
                 reason: Reason::Run,
             };
-            match run_at(text, next, b"run=", runs, line + 1) {
+            match run_at(text, next, b"run=", good_runs, line + 1) {
                 Run::Refused(f) => LegRead::Refused(f),
                 Run::Ahead(m, after) => LegRead::Leg(start, false, m, after),
                 Run::Behind(m, after) => LegRead::Leg(start, true, m, after),
@@ -122,20 +122,20 @@ fn read_legs(text: &[u8], from: usize, ports: u8, legs: u8) -> ReadPlan
 pub fn read_plan(text: &[u8]) -> ReadPlan
     ensures { λ r. ⌜ Answers mostLegs (readPlanOf (now (text .entry))) r ⌝ }
 {
-    let few = Values {
+    let good_ports = Values {
         low: 2,
         below: 21,
         reason: Reason::Ports,
     };
-    match number_at(text, 0, b"ports=", few, 1) {
+    match number_at(text, 0, b"ports=", good_ports, 1) {
         Numbered::Refused(f) => refused(f),
         Numbered::Number(ports, at) => {
-            let most = Values {
+            let good_legs = Values {
                 low: 1,
                 below: 17,
                 reason: Reason::Legs,
             };
-            match number_at(text, at, b"legs=", most, 2) {
+            match number_at(text, at, b"legs=", good_legs, 2) {
                 Numbered::Refused(f) => refused(f),
                 Numbered::Number(legs, next) => read_legs(text, next, ports as u8, legs as u8),
             }
