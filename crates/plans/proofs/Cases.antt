@@ -131,11 +131,13 @@ legLines =
     ∷ (one (n (4 ∷ [])) (n (8 ∷ [])) (minus ∷ allButOne ++ n (6 ∷ [])) is no 8 4)
     ∷ []
 
--- the second leg missing; a byte, and a newline, after the last line; a seventeenth leg, and a byte after the sixteenth; run 1 and -1 for 2 ports
+-- the second leg missing; after the last line a byte, a byte and a newline, a newline; a seventeenth leg, and a byte after the sixteenth; run 1 and -1 for 2
+-- ports
 abbrev pub ends : List Case
 ends =
     (ports (n (4 ∷ [])) ++ (legs (n (2 ∷ [])) ++ stays 1) is no 11 5)
     ∷ (one (n (4 ∷ [])) (n (0 ∷ [])) (n (2 ∷ [])) ++ (120 ∷ []) is no 11 5)
+    ∷ (one (n (4 ∷ [])) (n (0 ∷ [])) (n (2 ∷ [])) ++ (120 ∷ newline ∷ []) is no 11 5)
     ∷ (one (n (4 ∷ [])) (n (0 ∷ [])) (n (2 ∷ [])) ++ (newline ∷ []) is no 11 5)
     ∷ (ports (n (2 ∷ [])) ++ (legs (n (1 ∷ 6 ∷ [])) ++ stays 17) is no 11 35)
     ∷ (ports (n (2 ∷ [])) ++ (legs (n (1 ∷ 6 ∷ [])) ++ (stays 16 ++ (0 ∷ []))) is no 11 35)
