@@ -1,8 +1,10 @@
 -- `fields::line_at` finds the newline and then the key: without the one it tells 11, without the other 7.
-use mathlib.Core.Path.{sym, ap, _∙_}
+use mathlib.Core.Path.{_≡_, sym, ap, _∙_}
 use native.Mathlib.Omega.{arith}
 use borrow.Author.Needs.{needs}
+use Rattle.words.specs.Told.{refused, atLine}
 use Rattle.words.specs.Meaning.{refusalOf}
+use Rattle.texts.specs.Parts.{Parts}
 use Rattle.texts.specs.Answers.{foundIs}
 use Rattle.fields.proofs.Lines.{line-open, line-within, key-missing, key-found, key-within}
 use Rattle.fields.proofs.line_at.Statement.{statement}
@@ -41,7 +43,8 @@ returns-2 c =
     let f = c .before .before .before in
     let a = f .before .before .before .before .args in
     let e = sym (ap foundIs (c .before .enum-told .given .1)) ∙ f .find .ensures in
-    (ap refusalOf (c .at-line .ensures) ∙ line-open (a .text .now) (a .at) (a .key .now) (a .line) e, tt)
+    let told : refusalOf {A = Parts} (c .at-line .result) ≡ refused 11 (atLine (a .line)) = ap refusalOf (c .at-line .ensures) in
+    (told ∙ line-open (a .text .now) (a .at) (a .key .now) (a .line) e, tt)
 
 returns-3 : tie.Need-returns-3
 returns-3 c =
@@ -51,7 +54,8 @@ returns-3 c =
     let a = f .before .before .before .before .args in
     let e = sym (ap foundIs (k .before .n .given .1)) ∙ f .find .ensures in
     let g = sym (c .before .if1 .left) ∙ h .has-key .ensures in
-    (ap refusalOf (c .at-line2 .ensures) ∙ key-missing (a .text .now) (a .at) (a .key .now) (a .line) _ e g, tt)
+    let told : refusalOf {A = Parts} (c .at-line2 .result) ≡ refused 7 (atLine (a .line)) = ap refusalOf (c .at-line2 .ensures) in
+    (told ∙ key-missing (a .text .now) (a .at) (a .key .now) (a .line) _ e g, tt)
 
 pub line-at-spec : {M : Type 1} → statement M
 line-at-spec =
