@@ -1,4 +1,5 @@
--- Runs with their signs: what the code computes from a magnitude below 2^63, and that a leg is read back from its start and its signed run.
+-- Runs with their signs, and plans in places: what the code computes from a magnitude below 2^63, that the places of a plan hold it (`held-planned`), and how
+-- many they are (`held-places`).
 -- Assumes nothing.
 use mathlib.Core.Path.{_≡_, refl, sym, ap, subst, _∙_}
 use mathlib.Core.Bool.{Bool, true, false}
