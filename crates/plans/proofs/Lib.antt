@@ -1,0 +1,7 @@
+pub mod Legs
+pub mod Plans
+pub mod Runs
+pub mod Turns
+pub mod Longest
+pub mod Only
+pub mod Cases
