@@ -2,22 +2,21 @@
 -- the value, for every kind of line.
 -- Assumes nothing.
 use mathlib.Core.Path.{_≡_, sym, ap, _∙_}
-use mathlib.Core.Bool.{true, false, true≢false, and-eq-true-iff}
-use mathlib.Core.List.{List, [], _∷_, _++_}
+use mathlib.Core.Bool.{true, false, and-eq-true-iff}
+use mathlib.Core.List.{List, [], _∷_}
 use mathlib.Core.Option.{none, some}
 use Prim.Native.Nat.{ℕ, zero, suc, _+_, _-_, _≤_, _<_}
 use native.Mathlib.Nat.{add-suc}
 use native.Mathlib.Numerals.{add-one}
 use native.Mathlib.Omega.{arith}
 use lib.Dec.{leb, ltb}
-use lib.ListN.{length, take, drop, length-append, length-drop}
-use lib.Seq.{take-all, take-nil, drop-drop, length-take-le}
+use lib.ListN.{length, take, drop, length-drop}
+use lib.Seq.{take-nil, drop-drop, length-take-le}
 use borrow.Author.Tests.{le-leb, lt-leb, lt-ltb, leb-true, ltb-true}
-use Rattle.listing.proofs.Numbers.{either, below?}
 use Rattle.words.specs.Told.{Spot, accepted, refused, atLine}
-use Rattle.texts.specs.Parts.{newline, firstOf, begins, Parts, around}
-use Rattle.texts.proofs.Cuts.{cut-parts}
-use Rattle.texts.proofs.Keys.{begins-short}
+use Rattle.texts.specs.Parts.{newline, firstOf, begins, Parts}
+use Rattle.texts.proofs.Cuts.{first-inside, to-the-end}
+use Rattle.texts.proofs.Keys.{key-room}
 use Rattle.fields.specs.Field.{lineIn, between, Field, fieldIn}
 use Rattle.fields.specs.Places.{part}
 
@@ -32,7 +31,7 @@ drop-take (suc k) (suc n) (x ∷ l) = let e : suc n - suc k ≡ n - k = omega ar
 
 -- the part up to the end
 pub part-rest : (t : List ℕ) (at : ℕ) → part at (length t) t ≡ drop at t
-part-rest t at = take-all (length t - at) (drop at t) (omega (arith, length-drop at t))
+part-rest = to-the-end
 
 -- the part of n bytes
 pub part-front : (t : List ℕ) (at n : ℕ) → part at (at + n) t ≡ take n (drop at t)
@@ -43,21 +42,6 @@ pub part-after : (t : List ℕ) (at n k : ℕ) → drop k (take n (drop at t)) �
 part-after t at n k =
     let e : n - k ≡ at + n - (at + k) = omega arith in
     drop-take k n (drop at t) ∙ ap (take (n - k)) (drop-drop k at t) ∙ ap (λ m. take m (drop (at + k) t)) e
-
--- the first b of a text stands in it
-pub first-within : (b : ℕ) (t : List ℕ) (n : ℕ) → firstOf b t ≡ some n → n < length t
-first-within b t n e =
-    either (below? n (length t))
-    (λ h. h)
-    (λ h.
-    let c = cut-parts b t (record { front = take n t; rest = drop (suc n) t }) (ap (around t) e) in
-    let l : length t ≡ length t + suc (length (drop (suc n) t)) =
-    ap length (c .whole ∙ ap (λ s. s ++ (b ∷ drop (suc n) t)) (take-all n t h)) ∙ length-append t (b ∷ drop (suc n) t) in
-    absurd (omega arith))
-
--- a text is no shorter than a key that it begins with
-pub key-fits : (key t : List ℕ) → begins key t ≡ true → length key ≤ length t
-key-fits key t e = either (below? (length t) (length key)) (λ h. absurd (true≢false (sym e ∙ begins-short key t h))) (λ h. h)
 
 -- ---- newline and key, from a place on
 
@@ -73,7 +57,7 @@ module _ (t : List ℕ) (at : ℕ) (key : List ℕ) (line : ℕ) where
 
     -- the newline stands in the text
     pub line-within : at ≤ length t → at + n < length t
-    line-within h = omega (arith, first-within newline (drop at t) n newline-at, length-drop at t)
+    line-within h = omega (arith, first-inside newline (drop at t) n newline-at, length-drop at t)
 
     -- another key: 7
     pub key-missing : false ≡ begins key (part at (at + n) t) → refused 7 (atLine line) ≡ lineIn key line (drop at t)
@@ -93,7 +77,7 @@ module _ (t : List ℕ) (at : ℕ) (key : List ℕ) (line : ℕ) where
       pub key-within : at + n < length t → at + length key ≤ at + n
       key-within h =
           let g : length (take n (drop at t)) ≡ n = length-take-le n (drop at t) (omega (arith, length-drop at t)) in
-          omega (arith, key-fits key (take n (drop at t)) (sym (f ∙ ap (begins key) (part-front t at n))))
+          omega (arith, key-room key (take n (drop at t)) (sym (f ∙ ap (begins key) (part-front t at n))))
 
 -- ---- number and value
 

@@ -7,7 +7,8 @@ use mathlib.Core.List.{List, _∷_, _++_}
 use mathlib.Core.Option.{Option, none, some}
 use Prim.Native.Nat.{ℕ, _≤_, _<_}
 use lib.Seq.{append-snoc}
-use Rattle.words.specs.Told.{Told, accepted, refused, then}
+use Rattle.words.specs.Told.{accepted}
+use Rattle.words.proofs.Told.{accepted-once, then-accepted}
 use Rattle.texts.specs.Parts.{newline, firstOf, Parts, cut, after}
 use Rattle.texts.proofs.Cuts.{cut-joined, cut-parts}
 use Rattle.texts.proofs.Keys.{after-key, key-after}
@@ -15,20 +16,6 @@ use Rattle.fields.specs.Field.{fieldText, need, passed, lineIn, between,
 use Rattle.fields.proofs.Lines.{good-value, value-good}
 
 -- ---- accepted steps
-
--- what is accepted is one thing
-pub accepted-once : {A : Type 0} {x y : A} → accepted x ≡ accepted y → x ≡ y
-accepted-once e = cc
-
--- a call that goes on: both it and the one before it were accepted
-pub record Both {A B : Type 0} (told : Told A) (go : A → Told B) (b : B) : Type 0 where
-  pub first : A
-  pub taken : told ≡ accepted first
-  pub on : go first ≡ accepted b
-
-pub then-accepted : {A B : Type 0} (told : Told A) (go : A → Told B) (b : B) → then told go ≡ accepted b → Both told go b
-then-accepted (accepted a) go b e = record { first = a; taken = refl; on = e }
-then-accepted (refused k s) go b e = absurd (true≢false (cc))
 
 -- what has to be there is there
 pub need-accepted : {A : Type 0} (k line : ℕ) (o : Option A) (a : A) → need k line o ≡ accepted a → o ≡ some a

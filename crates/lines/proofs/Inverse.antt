@@ -12,35 +12,24 @@ use native.Mathlib.Omega.{arith}
 use lib.ListN.{length, drop, length-append, length-drop, drop-of-length-le}
 use lib.Seq.{append-snoc, drop-append-seam, drop-drop}
 use Rattle.listing.proofs.Numbers.{either}
+use Rattle.words.specs.Shape.{lineFits}
 use Rattle.words.specs.Told.{Told, accepted, refused, nowhere, then}
-use Rattle.words.specs.Meaning.{orderOf}
 use Rattle.words.specs.declared.Order.the-variants.{Swap, Turn}
 use Rattle.words.specs.declared.Line.{Line}
 use Rattle.words.specs.declared.Line.the-variants.{Movement, Mark, End}
-use Rattle.words.proofs.Shape.{shaped-shape, shape-shaped}
+use Rattle.words.proofs.Shape.{fits-passes, passes-fits}
 use Rattle.texts.specs.Parts.{newline, firstOf, begins, cut, after}
 use Rattle.texts.proofs.Cuts.{first-append, cut-joined, cut-parts}
 use Rattle.texts.proofs.Keys.{key-after}
 use Rattle.lines.specs.Format.{Kind, swapping, turning, marking, ending, key, commas, Numbers, AllUpTo, listed}
 use Rattle.lines.specs.Format.{kindOf, numbersOf, lineOf, keyText, unended, lineText}
-use Rattle.lines.specs.Reading.{numbersIn, lineFits, LineFits, Proper, fitting, orRefused, numbersTold, keyed, lineIn, readOf}
+use Rattle.lines.specs.Reading.{numbersIn, Proper, fitting, orRefused, numbersTold, keyed, lineIn, readOf}
 use Rattle.lines.specs.Campaign.{OfCampaign}
 use Rattle.lines.proofs.Listed.{listed-clear, numbers-of-listed, listed-of-numbers}
-use Rattle.lines.proofs.Told.{not-both, same-accepted, then-accepted, there}
+use Rattle.words.proofs.Told.{not-both, accepted-once, then-accepted}
+use Rattle.lines.proofs.Told.{there}
 
 -- ---- shape
-
--- a line that fits passes the test
-pub fits-passes : (n : ℕ) (l : Line) → LineFits n l → lineFits n l ≡ true
-fits-passes n (Movement o) h = shape-shaped n (orderOf o) h
-fits-passes n (Mark m r) h = refl
-fits-passes n (End m) h = refl
-
--- and one that passes it fits
-pub passes-fits : (n : ℕ) (l : Line) → lineFits n l ≡ true → LineFits n l
-passes-fits n (Movement o) e = shaped-shape n (orderOf o) e
-passes-fits n (Mark m r) e = tt
-passes-fits n (End m) e = tt
 
 -- what is accepted passes the test, and is the line itself
 fitting-accepted : (n : ℕ) (l m : Line) → fitting n l ≡ accepted m → (lineFits n l ≡ true) × (l ≡ m)
@@ -150,9 +139,9 @@ module _ (most jacks : ℕ) where
       let y = line-kind t l e in
       let k = y .kind in
       let c = then-accepted (orRefused 8 (numbersIn most (commas k) (y .rest))) (λ x. fitting jacks (lineOf k x)) l (y .told) in
-      let x = c .0 in
-      let n = listed-of-numbers most (commas k) (y .rest) x (there 8 (numbersIn most (commas k) (y .rest)) x (c .1)) in
-      let f = fitting-accepted jacks (lineOf k x) l (c .2) in
+      let x = c .first in
+      let n = listed-of-numbers most (commas k) (y .rest) x (there 8 (numbersIn most (commas k) (y .rest)) x (c .taken)) in
+      let f = fitting-accepted jacks (lineOf k x) l (c .on) in
       subst (λ m. (t ≡ unended m) × Proper most jacks m) (f .1) (
         y .whole ∙ ap (λ v. key k ++ v) (n .0) ∙ sym (unended-of-line k x),
         record { fits = passes-fits jacks (lineOf k x) (f .0); numbers = all-of-line most k x (n .1) },
@@ -188,12 +177,12 @@ module _ (most jacks : ℕ) where
   written-read t place l next e =
       let c = then-accepted (orRefused 11 (cut newline (drop place t)))
       (λ p. then (lineIn most jacks (p .front)) (λ m. accepted (m, place + length (p .front) + 1))) (l, next) e in
-      let p = c .0 in
-      let w = cut-parts newline (drop place t) p (there 11 (cut newline (drop place t)) p (c .1)) .whole in
-      let d = then-accepted (lineIn most jacks (p .front)) (λ m. accepted (m, place + length (p .front) + 1)) (l, next) (c .2) in
-      let is : d .0 ≡ l = ap (λ q. q .0) (same-accepted (d .2)) in
-      let to : place + length (p .front) + 1 ≡ next = ap (λ q. q .1) (same-accepted (d .2)) in
-      let r = read-unended (p .front) l (d .1 ∙ ap accepted is) in
+      let p = c .first in
+      let w = cut-parts newline (drop place t) p (there 11 (cut newline (drop place t)) p (c .taken)) .whole in
+      let d = then-accepted (lineIn most jacks (p .front)) (λ m. accepted (m, place + length (p .front) + 1)) (l, next) (c .on) in
+      let is : d .first ≡ l = ap (λ q. q .0) (accepted-once (d .on)) in
+      let to : place + length (p .front) + 1 ≡ next = ap (λ q. q .1) (accepted-once (d .on)) in
+      let r = read-unended (p .front) l (d .taken ∙ ap accepted is) in
       let on : place + length (lineText l) ≡ next = omega (arith, text-length l, ap length (r .0)) in
       let all : drop place t ≡ lineText l ++ p .rest = w ∙ ap (λ s. s ++ (newline ∷ p .rest)) (r .0) ∙ sym (text-append l (p .rest)) in
       let end : drop next t ≡ p .rest =
@@ -211,7 +200,7 @@ module _ (most jacks : ℕ) where
   -- so a text begins with one line at most
   pub one-line : (l m : Line) → Proper most jacks l → Proper most jacks m → (s t : List ℕ) → lineText l ++ s ≡ lineText m ++ t → l ≡ m
   one-line l m p q s t e =
-      let a = sym (read-written l p [] s) ∙ ap (λ u. readOf most jacks u 0) e ∙ read-written m q [] t in ap (λ r. r .0) (same-accepted a)
+      let a = sym (read-written l p [] s) ∙ ap (λ u. readOf most jacks u 0) e ∙ read-written m q [] t in ap (λ r. r .0) (accepted-once a)
 
   -- ---- at or past the end
 

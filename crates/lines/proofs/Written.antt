@@ -12,9 +12,10 @@ use Rattle.listing.proofs.Numbers.{either, below?, test}
 use Rattle.words.specs.Told.{Spot, nowhere, accepted, refused}
 use Rattle.words.specs.declared.Line.{Line}
 use Rattle.lines.specs.Format.{lineText}
-use Rattle.lines.specs.Reading.{lineFits, fitting}
+use Rattle.words.specs.Shape.{lineFits}
+use Rattle.lines.specs.Reading.{fitting}
 use Rattle.lines.specs.Calls.{roomOf, writeOf, writeBytes}
-use Rattle.lines.proofs.Told.{not-both, same-accepted}
+use Rattle.words.proofs.Told.{not-both, accepted-once}
 
 module _ (jacks : ℕ) (l : Line) (buf : List ℕ) where
   -- an order out of shape is refused, whatever the room
@@ -47,7 +48,7 @@ module _ (jacks : ℕ) (l : Line) (buf : List ℕ) where
       either (test (lineFits jacks l))
       (λ f. either (below? (length buf) (length (lineText l)))
       (λ h. absurd (not-both (write-room f h .0 ∙ e)))
-      (λ h. (same-accepted (write-front f h .0 ∙ e), write-front f h .1)))
+      (λ h. (accepted-once (write-front f h .0 ∙ e), write-front f h .1)))
       (λ f. absurd (not-both (write-unfit f .0 ∙ e)))
 
   -- the line stands in front, in as many bytes as were told

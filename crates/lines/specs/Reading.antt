@@ -2,16 +2,13 @@
 -- numbers (8), jacks different and in shape (17). The largest number and the most jacks of the device are parameters.
 -- Assumes nothing.
 use Prim.Native.Nat.{ℕ, zero, suc, _+_}
-use mathlib.Core.Bool.{Bool, true, cond}
+use mathlib.Core.Bool.{cond}
 use mathlib.Core.List.{List}
 use mathlib.Core.Option.{Option, none, some, Option·map, bind}
 use lib.ListN.{length, drop}
-use Rattle.listing.specs.Orders.{InShape}
 use Rattle.words.specs.Told.{Told, accepted, refused, nowhere, then}
-use Rattle.words.specs.Meaning.{orderOf}
-use Rattle.words.specs.Shape.{shaped}
+use Rattle.words.specs.Shape.{lineFits, LineFits}
 use Rattle.words.specs.declared.Line.{Line}
-use Rattle.words.specs.declared.Line.the-variants.{Movement, Mark, End}
 use Rattle.decimals.specs.Decimal.{numberUpTo}
 use Rattle.texts.specs.Parts.{newline, comma, cut, after}
 use Rattle.lines.specs.Format.{Kind, swapping, turning, marking, ending, key, commas, Numbers, AllUpTo, kindOf, numbersOf, lineOf}
@@ -28,18 +25,6 @@ numbersIn most zero t = numberUpTo most t
 numbersIn most (suc k) t = bind (numberBefore most t) (λ b. Option·map (λ x. (b .0, x)) (numbersIn most k (b .1)))
 
 -- ---- the checks, from the last to the first
-
--- whether a line fits n jacks: an order in shape, each mark and each end
-abbrev pub lineFits : ℕ → Line → Bool
-lineFits n (Movement o) = shaped n (orderOf o)
-lineFits n (Mark m r) = true
-lineFits n (End m) = true
-
--- the same as a fact
-abbrev pub LineFits : ℕ → Line → Type 0
-LineFits n (Movement o) = InShape n (orderOf o)
-LineFits n (Mark m r) = Unit {0}
-LineFits n (End m) = Unit {0}
 
 -- a line that the device writes and reads: it fits the jacks, and its numbers are not too large
 pub record Proper (most jacks : ℕ) (l : Line) : Type 0 where

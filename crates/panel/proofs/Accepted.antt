@@ -10,7 +10,8 @@ use Rattle.listing.specs.Pattern.{entry}
 use Rattle.words.specs.Told.{Spot, nowhere, accepted, refused}
 use Rattle.words.specs.declared.Line.{Line}
 use Rattle.checks.specs.Calls.{checkAs}
-use Rattle.panel.specs.Calls.{onPanel, lineFits, after, carryOf, carryBytes}
+use Rattle.panel.specs.Calls.{onPanel, after, carryOf, carryBytes}
+use Rattle.words.specs.Shape.{lineFits}
 
 module _ {A : Type 0} (most : ℕ) (p : List ℕ) (fits : Bool) (a : A) where
   -- a panel that is refused

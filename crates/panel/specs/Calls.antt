@@ -2,14 +2,14 @@
 -- 'Refusal numbers': 1, then 3 and 4 from jack 1 on, then 17; 5 is not tried). The most ports of the device is a parameter.
 -- Assumes nothing.
 use Prim.Native.Nat.{ℕ}
-use mathlib.Core.Bool.{Bool, true, false, cond}
+use mathlib.Core.Bool.{Bool, false, cond}
 use mathlib.Core.List.{List}
 use lib.ListN.{length}
 use Rattle.listing.specs.Pattern.{entry}
 use Rattle.listing.specs.Orders as list
 use Rattle.words.specs.Told.{Told, accepted, refused, nowhere, then, leaves}
 use Rattle.words.specs.Meaning.{orderOf}
-use Rattle.words.specs.Shape.{oneOf, shaped}
+use Rattle.words.specs.Shape.{oneOf, lineFits}
 use Rattle.words.specs.declared.Line.{Line}
 use Rattle.words.specs.declared.Line.the-variants.{Movement, Mark, End}
 use Rattle.checks.specs.Faults.{seek}
@@ -26,12 +26,6 @@ portOf most p j = onPanel most p (oneOf (length p) j) (entry p j)
 -- the jack that holds port v: the first one from jack 1 on
 unfoldable pub jackOf : ℕ → List ℕ → ℕ → Told ℕ
 jackOf most p v = onPanel most p (oneOf (length p) v) (seek p v 1 (length p))
-
--- whether a line fits a panel of n jacks: an order in shape, each mark and each end
-abbrev pub lineFits : ℕ → Line → Bool
-lineFits n (Movement o) = shaped n (orderOf o)
-lineFits n (Mark m r) = true
-lineFits n (End m) = true
 
 -- the panel after a line: an order does what the list says, mark and end leave it as it is
 abbrev pub after : Line → List ℕ → List ℕ

@@ -14,7 +14,7 @@ use Rattle.texts.specs.Parts.{firstOf}
 use Rattle.decimals.specs.Decimal.{digitsOf}
 use Rattle.decimals.specs.Signed.{Signed, ahead, behind, magnitude, Proper, signedDigits}
 use Rattle.fields.specs.Field.{fieldText, Got, fieldIn}
-use Rattle.fields.proofs.OneLine.{then-accepted, accepted-once}
+use Rattle.words.proofs.Told.{then-accepted, accepted-once}
 use Rattle.fields.proofs.Numbers.{number-text, number-accepted, signed-text, signed-accepted}
 use Rattle.plans.specs.Grammar.{startKey, runKey, runOf, legText, legsText, LegFits, EachFits}
 use Rattle.plans.specs.Reading.{startField, runField, legBy, legIn, preceded, legsIn}

@@ -14,7 +14,7 @@ use Rattle.words.specs.Told.{Spot, accepted, refused}
 use Rattle.texts.specs.Parts.{firstOf}
 use Rattle.decimals.specs.Decimal.{digitsOf}
 use Rattle.fields.specs.Field.{fieldText, Got, fieldIn}
-use Rattle.fields.proofs.OneLine.{then-accepted, accepted-once}
+use Rattle.words.proofs.Told.{then-accepted, accepted-once}
 use Rattle.fields.proofs.Numbers.{number-text, number-accepted}
 use Rattle.plans.specs.Grammar.{Planned, Limits, Wide, portsKey, legsKey, legsText, planText, LegFits, EachFits, Fits}
 use Rattle.plans.specs.Reading.{portsField, legsField, legsIn, withPorts, planIn}

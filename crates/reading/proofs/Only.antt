@@ -6,14 +6,14 @@ use Prim.Native.Nat.{ℕ}
 use Rattle.listing.specs.Limits.{mostPorts, largest64}
 use Rattle.words.proofs.Once.{refusal-once}
 use Rattle.lines.specs.Reading.{readOf}
-use Rattle.lines.proofs.Told.{same-accepted}
+use Rattle.words.proofs.Told.{accepted-once}
 use Rattle.reading.specs.Answers.{readTold}
 use Rattle.reading.specs.declared.answers.ReadLine.{ReadLine}
 use Rattle.reading.specs.declared.answers.ReadLine.the-variants.{Read, Refused}
 
 -- two answers that tell the same
 read-once : (r s : ReadLine) → readTold r ≡ readTold s → r ≡ s
-read-once (Read l m) (Read k n) e = ap (λ q. Read (q .0) (q .1)) (same-accepted e)
+read-once (Read l m) (Read k n) e = ap (λ q. Read (q .0) (q .1)) (accepted-once e)
 read-once (Read l m) (Refused g) e = cc
 read-once (Refused f) (Read k n) e = cc
 read-once (Refused f) (Refused g) e = ap Refused (refusal-once f g e)

@@ -1,49 +1,35 @@
 -- What the reader may conclude at each step: of the byte that it found, the numbers that it read, the shape, the key, and the newline.
 -- Assumes nothing.
 use mathlib.Core.Path.{_≡_, sym, ap, _∙_}
-use mathlib.Core.Bool.{true, false, true≢false}
-use mathlib.Core.List.{List, _∷_}
+use mathlib.Core.Bool.{true, false}
+use mathlib.Core.List.{List}
 use mathlib.Core.Option.{Option, none, some, Option·map, bind}
 use Prim.Native.Nat.{ℕ, suc, _+_, _-_, _≤_, _<_}
 use native.Mathlib.Numerals.{add-one}
 use native.Mathlib.Omega.{arith}
-use lib.ListN.{length, take, drop, length-append, length-take, length-drop, drop-of-length-le}
-use lib.Seq.{take-all, length-take-le}
-use Rattle.listing.proofs.Numbers.{either, below?, test}
+use lib.ListN.{length, take, drop, length-drop, drop-of-length-le}
+use lib.Seq.{length-take-le}
+use Rattle.listing.proofs.Numbers.{either, test}
 use Rattle.words.specs.Told.{Told, accepted, refused, nowhere, then}
 use Rattle.words.specs.declared.Line.{Line}
 use Rattle.decimals.specs.Decimal.{numberUpTo}
-use Rattle.texts.specs.Parts.{newline, comma, firstOf, begins, around, after}
-use Rattle.texts.proofs.Cuts.{cut-parts}
-use Rattle.texts.proofs.Keys.{begins-short}
+use Rattle.texts.specs.Parts.{newline, comma, firstOf, begins, after}
+use Rattle.texts.proofs.Cuts.{first-inside, to-the-end}
 use Rattle.lines.specs.Format.{Kind, swapping, turning, marking, ending, key, commas, Numbers, lineOf}
-use Rattle.lines.specs.Reading.{numberBefore, numbersIn, lineFits, LineFits, fitting, numbersTold, keyed, lineIn, readOf}
-use Rattle.lines.proofs.Inverse.{passes-fits}
+use Rattle.lines.specs.Reading.{numberBefore, numbersIn, fitting, numbersTold, keyed, lineIn, readOf}
+use Rattle.words.specs.Shape.{lineFits, LineFits}
+use Rattle.words.proofs.Shape.{passes-fits}
 
 -- ---- parts of a text
 
--- from a place to the end
-pub to-the-end : (t : List ℕ) (at : ℕ) → take (length t - at) (drop at t) ≡ drop at t
-to-the-end t at = take-all (length t - at) (drop at t) (omega (arith, length-drop at t))
-
--- the first b stands inside the text
-pub found-inside : (b : ℕ) (t : List ℕ) (k : ℕ) → firstOf b t ≡ some k → k < length t
-found-inside b t k e =
-    let w = cut-parts b t (record { front = take k t; rest = drop (suc k) t }) (ap (around t) e) .whole in
-    omega (arith, ap length w, length-append (take k t) (b ∷ drop (suc k) t), length-take k t)
-
--- so does one that stands k after a place
+-- a newline that stands k after a place stands inside the text
 pub newline-inside : (t : List ℕ) (place k : ℕ) → some k ≡ firstOf newline (drop place t) → place + k < length t
-newline-inside t place k e = omega (arith, found-inside newline (drop place t) k (sym e), length-drop place t)
+newline-inside t place k e = omega (arith, first-inside newline (drop place t) k (sym e), length-drop place t)
 
 -- past the end nothing is found
 pub none-past : (b : ℕ) (t : List ℕ) (place : ℕ) → length t ≤ place → none ≡ firstOf b (drop place t)
 unfolding firstOf
 none-past b t place h = rw (drop-of-length-le t h)
-
--- a text that begins with a key is as long
-pub key-room : (word t : List ℕ) → true ≡ begins word t → length word ≤ length t
-key-room word t e = either (below? (length t) (length word)) (λ h. absurd (true≢false (e ∙ begins-short word t h))) (λ h. h)
 
 -- ---- numbers
 
@@ -152,6 +138,6 @@ module _ (most jacks : ℕ) where
     unfolding readOf
     before-newline k r e f =
         let to : place + k - place ≡ k = omega arith in
-        let n : length (take k (drop place t)) ≡ k = length-take-le k (drop place t) (omega (arith, found-inside newline (drop place t) k (sym e))) in
+        let n : length (take k (drop place t)) ≡ k = length-take-le k (drop place t) (omega (arith, first-inside newline (drop place t) k (sym e))) in
         let f′ : r ≡ lineIn most jacks (take k (drop place t)) = f ∙ ap (λ j. lineIn most jacks (take j (drop place t))) to in
         rw (← e, ← f′, n)

@@ -3,15 +3,15 @@
 -- Assumes nothing.
 use mathlib.Core.Path.{_≡_, refl, sym, ap, _∙_, subst}
 use mathlib.Core.Bool.{true≢false}
-use mathlib.Core.Logic.{_≢_, _⊎_, inl, inr}
+use mathlib.Core.Logic.{_≢_}
 use mathlib.Core.List.{List, [], _∷_, _++_}
 use mathlib.Core.Option.{Option, none, some}
-use Prim.Native.Nat.{ℕ, zero, suc, _+_, _≤_, _<_}
-use native.Mathlib.Nat.{add-suc, add-zero}
+use Prim.Native.Nat.{ℕ, zero, suc, _+_, _-_, _≤_, _<_}
+use native.Mathlib.Nat.{add-zero}
 use native.Mathlib.Numerals.{add-one}
 use native.Mathlib.Omega.{arith}
-use lib.ListN.{length, take, drop, getD, drop-of-length-le}
-use lib.Seq.{drop-cons, take-append-seam, drop-append-add}
+use lib.ListN.{length, take, drop, getD, length-append, length-take, length-drop, drop-of-length-le}
+use lib.Seq.{take-all, drop-cons, take-append-seam, drop-append-add}
 use borrow.Author.Tests.{eq-eqb, ne-eqb}
 use Rattle.listing.proofs.Numbers.{either, same?}
 use Rattle.texts.specs.Parts.{later, firstOf, Parts, around, cut}
@@ -98,6 +98,16 @@ cut-parts b t p e = by (firstOf b t) refl e
     by : (o : Option ℕ) → firstOf b t ≡ o → around t o ≡ some p → CutAt b t p
     by none f e = absurd (true≢false (cc))
     by (some k) f e = subst (CutAt b t) (cc) (parts-at b t k f)
+
+-- the first b of a text stands inside it
+pub first-inside : (b : ℕ) (t : List ℕ) (k : ℕ) → firstOf b t ≡ some k → k < length t
+first-inside b t k e =
+    let w = parts-at b t k e .whole in
+    omega (arith, ap length w, length-append (take k t) (b ∷ drop (suc k) t), length-take k t)
+
+-- the part of a text from a place to its end
+pub to-the-end : (t : List ℕ) (at : ℕ) → take (length t - at) (drop at t) ≡ drop at t
+to-the-end t at = take-all (length t - at) (drop at t) (omega (arith, length-drop at t))
 
 -- ---- the loop that looks for b: none was found before `at`, so the bytes from there on decide
 

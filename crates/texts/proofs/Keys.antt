@@ -4,14 +4,14 @@ use mathlib.Core.Path.{_≡_, refl, sym, ap, _∙_}
 use mathlib.Core.Bool.{Bool, true, false, true≢false, cond}
 use mathlib.Core.Logic.{_≢_}
 use mathlib.Core.List.{List, [], _∷_, _++_}
-use mathlib.Core.Option.{Option, none, some}
-use Prim.Native.Nat.{ℕ, zero, suc, _+_, _≤_, _<_}
+use mathlib.Core.Option.{none, some}
+use Prim.Native.Nat.{ℕ, suc, _+_, _≤_, _<_}
 use native.Mathlib.Numerals.{add-one}
 use native.Mathlib.Omega.{arith}
 use lib.ListN.{length, drop, getD, drop-of-length-le}
 use lib.Seq.{drop-cons, drop-append-seam}
 use borrow.Author.Tests.{eq-eqb, ne-eqb}
-use Rattle.listing.proofs.Numbers.{either, same?}
+use Rattle.listing.proofs.Numbers.{either, below?, same?}
 use Rattle.texts.specs.Parts.{begins, after}
 
 -- ---- byte by byte
@@ -63,6 +63,10 @@ begins-short [] t h = absurd (omega arith)
 begins-short (k ∷ key) [] h = refl
 begins-short (k ∷ key) (x ∷ t) h =
     either (same? x k) (λ q. begins-same k x key t q ∙ begins-short key t (omega arith)) (λ q. begins-other k x key t q)
+
+-- so a text is no shorter than a key that it begins with
+pub key-room : (key t : List ℕ) → begins key t ≡ true → length key ≤ length t
+key-room key t e = either (below? (length t) (length key)) (λ h. absurd (true≢false (sym e ∙ begins-short key t h))) (λ h. h)
 
 module _ (key t : List ℕ) (at : ℕ) where
   -- the bytes at `at` agree

@@ -3,7 +3,7 @@
 use mathlib.Core.Path.{_≡_, refl, sym, ap, _∙_}
 use mathlib.Core.Logic.{_≢_, _⊎_, inl, inr}
 use mathlib.Core.Bool.{true, false, cond}
-use mathlib.Core.List.{List, [], _∷_}
+use mathlib.Core.List.{List}
 use mathlib.Core.Option.{none, some}
 use Prim.Native.Nat.{ℕ, zero, suc, _+_, _-_, _≤_, _<_}
 use native.Mathlib.Numerals.{add-one}
@@ -19,7 +19,7 @@ use Rattle.listing.proofs.Panels.{same-entries}
 use Rattle.levels.proofs.Filling.{entry-front}
 use Rattle.promise.specs.Tests.{same}
 use Rattle.promise.specs.Carriage.{fetch, carriageFrom, carriage}
-use Rattle.promise.proofs.Tests.{tells-same, fails, same-self}
+use Rattle.promise.proofs.Tests.{tells-same, fails}
 use Rattle.ways.specs.Coming.{nextOf, wrongFrom}
 
 -- ---- jack by jack

@@ -1,14 +1,13 @@
 -- Two words that mean the same are the same word. Each meaning can be read back, so it is met by one word only.
 -- Assumes nothing.
 use mathlib.Core.Path.{_≡_, refl, sym, ap, _∙_}
-use mathlib.Core.List.{List, [], _∷_}
+use mathlib.Core.List.{[], _∷_}
 use Prim.Native.Nat.{ℕ}
 use lib.ListN.{getD}
-use Rattle.listing.specs.Orders.{swap, turn, nothing, one, two}
+use Rattle.listing.specs.Orders.{nothing, one, two}
 use Rattle.listing.specs.Orders as list
 use Rattle.words.specs.Told.{Spot, nowhere, atJack, atLine}
-use Rattle.words.specs.Meaning.{orderOf, moveOf, numberOf, spotOf, refusalOf}
-use Rattle.words.specs.declared.Jack.{Jack}
+use Rattle.words.specs.Meaning.{jackAt, orderOf, orderFrom, moveOf, numberOf, spotOf, refusalOf}
 use Rattle.words.specs.declared.Order.{Order}
 use Rattle.words.specs.declared.Order.the-variants.{Swap, Turn}
 use Rattle.words.specs.declared.Move.{Move}
@@ -21,17 +20,10 @@ use Rattle.words.specs.declared.Refusal.{Refusal}
 
 -- ---- reading a meaning back
 
-jack : ℕ → Jack
-jack j = record { 0 = j }
-
-abbrev order : list.Order → Order
-order (swap a b) = Swap (jack a) (jack b)
-order (turn a b c) = Turn (jack a) (jack b) (jack c)
-
 abbrev move : list.Move → Move
 move nothing = Nothing
-move (one o) = One (order o)
-move (two a b c d) = Two (jack a) (jack b) (jack c) (jack d)
+move (one o) = One (orderFrom o)
+move (two a b c d) = Two (jackAt a) (jackAt b) (jackAt c) (jackAt d)
 
 abbrev reason : ℕ → Reason
 reason k =
@@ -40,16 +32,15 @@ reason k =
 
 abbrev place : Spot → Place
 place nowhere = Nowhere
-place (atJack j) = AtJack (jack j)
+place (atJack j) = AtJack (jackAt j)
 place (atLine l) = AtLine l
 
-order-back : (o : Order) → order (orderOf o) ≡ o
-unfolding jack
+-- the order that its numbers say
+pub order-back : (o : Order) → orderFrom (orderOf o) ≡ o
 order-back (Swap a b) = refl
 order-back (Turn a b c) = refl
 
 move-back : (v : Move) → move (moveOf v) ≡ v
-unfolding jack
 move-back Nothing = refl
 move-back (One o) = ap One (order-back o)
 move-back (Two a b c d) = refl
@@ -74,7 +65,6 @@ reason-back Errors = refl
 reason-back Shape = refl
 
 place-back : (p : Place) → place (spotOf p) ≡ p
-unfolding jack
 place-back Nowhere = refl
 place-back (AtJack j) = refl
 place-back (AtLine l) = refl
@@ -82,7 +72,7 @@ place-back (AtLine l) = refl
 -- ---- so each is met once
 
 pub order-once : (o p : Order) → orderOf o ≡ orderOf p → o ≡ p
-order-once o p e = sym (order-back o) ∙ ap order e ∙ order-back p
+order-once o p e = sym (order-back o) ∙ ap orderFrom e ∙ order-back p
 
 pub move-once : (v w : Move) → moveOf v ≡ moveOf w → v ≡ w
 move-once v w e = sym (move-back v) ∙ ap move e ∙ move-back w

@@ -1,13 +1,16 @@
--- The test of an order's shape is true exactly if the order is in shape, and that of a number exactly if it is among 1..n.
+-- The test of an order's shape is true exactly if the order is in shape, that of a number exactly if it is among 1..n, that of a line exactly if it fits.
 -- Assumes nothing.
-use mathlib.Core.Path.{_≡_}
+use mathlib.Core.Path.{_≡_, refl}
 use mathlib.Core.Bool.{Bool, true, not, _&&_, and-eq-true-iff}
 use Prim.Native.Nat.{ℕ, _≤_, _<_}
 use lib.Dec.{eqb, leb, ltb}
 use borrow.Author.Tests.{leb-true, ltb-true, eqb-false, not-true, le-leb, lt-ltb, ne-eqb}
 use Rattle.listing.specs.Numbers.{Among}
 use Rattle.listing.specs.Orders.{Order, swap, turn, InShape}
-use Rattle.words.specs.Shape.{oneOf, rising, shaped}
+use Rattle.words.specs.Shape.{oneOf, rising, shaped, lineFits, LineFits}
+use Rattle.words.specs.Meaning.{orderOf}
+use Rattle.words.specs.declared.Line.{Line}
+use Rattle.words.specs.declared.Line.the-variants.{Movement, Mark, End}
 
 -- both tests hold where their conjunction does
 both : (a b : Bool) → (a && b) ≡ true → (a ≡ true) × (b ≡ true)
@@ -54,3 +57,17 @@ pub shape-shaped : (n : ℕ) (o : Order) → InShape n o → shaped n o ≡ true
 unfolding shaped
 shape-shaped n (swap a b) s = parts-rising n a b (s .0) (s .1) (s .2)
 shape-shaped n (turn a b c) s = rw (ne-eqb b c (s .5), parts-rising n a b (s .0) (s .1) (s .2), parts-rising n a c (s .0) (s .3) (s .4))
+
+-- ---- a line
+
+-- a line that fits passes the test
+pub fits-passes : (n : ℕ) (l : Line) → LineFits n l → lineFits n l ≡ true
+fits-passes n (Movement o) h = shape-shaped n (orderOf o) h
+fits-passes n (Mark m r) h = refl
+fits-passes n (End m) h = refl
+
+-- and one that passes it fits
+pub passes-fits : (n : ℕ) (l : Line) → lineFits n l ≡ true → LineFits n l
+passes-fits n (Movement o) e = shaped-shape n (orderOf o) e
+passes-fits n (Mark m r) e = tt
+passes-fits n (End m) e = tt

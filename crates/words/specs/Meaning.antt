@@ -4,6 +4,7 @@ use Prim.Native.Nat.{ℕ}
 use Rattle.listing.specs.Orders.{swap, turn, nothing, one, two}
 use Rattle.listing.specs.Orders as list
 use Rattle.words.specs.Told.{Spot, nowhere, atJack, atLine, Told, refused}
+use Rattle.words.specs.declared.Jack.{Jack}
 use Rattle.words.specs.declared.Order.{Order}
 use Rattle.words.specs.declared.Order.the-variants.{Swap, Turn}
 use Rattle.words.specs.declared.Move.{Move}
@@ -18,6 +19,14 @@ use Rattle.words.specs.declared.Refusal.{Refusal}
 abbrev pub orderOf : Order → list.Order
 orderOf (Swap a b) = swap (a .0) (b .0)
 orderOf (Turn a b c) = turn (a .0) (b .0) (c .0)
+
+-- a jack, and the order, of these numbers
+abbrev pub jackAt : ℕ → Jack
+jackAt j = record { 0 = j }
+
+abbrev pub orderFrom : list.Order → Order
+orderFrom (swap a b) = Swap (jackAt a) (jackAt b)
+orderFrom (turn a b c) = Turn (jackAt a) (jackAt b) (jackAt c)
 
 -- a move, by its orders
 abbrev pub moveOf : Move → list.Move

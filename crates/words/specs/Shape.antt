@@ -1,9 +1,12 @@
--- Whether an order is in shape, as a test (the paper, 'Refusal numbers': 17). `InShape` of the list says what shape is; proofs/Shape has that the two agree.
+-- Whether an order is in shape, and a line fits, as tests (the paper, 'Refusal numbers': 17). `InShape` of the list says what shape is; proofs/Shape has that the two agree.
 -- Assumes nothing.
 use Prim.Native.Nat.{ℕ}
-use mathlib.Core.Bool.{Bool, not, _&&_}
+use mathlib.Core.Bool.{Bool, true, not, _&&_}
 use lib.Dec.{eqb, leb, ltb}
-use Rattle.listing.specs.Orders.{Order, swap, turn}
+use Rattle.words.specs.Meaning.{orderOf}
+use Rattle.words.specs.declared.Line.{Line}
+use Rattle.words.specs.declared.Line.the-variants.{Movement, Mark, End}
+use Rattle.listing.specs.Orders.{Order, swap, turn, InShape}
 
 -- whether x is one of 1..n
 unfoldable pub oneOf : ℕ → ℕ → Bool
@@ -17,3 +20,15 @@ rising n a b = leb 1 a && ltb a b && leb b n
 unfoldable pub shaped : ℕ → Order → Bool
 shaped n (swap a b) = rising n a b
 shaped n (turn a b c) = not (eqb b c) && rising n a b && rising n a c
+
+-- whether a line fits n jacks: an order in shape, each mark and each end
+abbrev pub lineFits : ℕ → Line → Bool
+lineFits n (Movement o) = shaped n (orderOf o)
+lineFits n (Mark m r) = true
+lineFits n (End m) = true
+
+-- the same as a statement
+abbrev pub LineFits : ℕ → Line → Type 0
+LineFits n (Movement o) = InShape n (orderOf o)
+LineFits n (Mark m r) = Unit {0}
+LineFits n (End m) = Unit {0}

@@ -22,7 +22,7 @@ use Rattle.words.specs.declared.Order.the-variants.{Swap, Turn}
 use Rattle.words.specs.declared.Line.{Line}
 use Rattle.words.specs.declared.Line.the-variants.{Movement, Mark, End}
 use Rattle.lines.specs.Format.{swapping, turning, marking, ending, key, listed, keyText, unended, lineText}
-use Rattle.lines.specs.Reading.{lineFits}
+use Rattle.words.specs.Shape.{lineFits}
 use Rattle.lines.specs.Calls.{writeOf, writeBytes}
 use Rattle.lines.proofs.Written.{write-room, write-front}
 use Rattle.writing.specs.Answers.{Spells, Grown}

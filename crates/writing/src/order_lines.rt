@@ -15,7 +15,7 @@ ghost use Rattle.listing.specs.Limits.{mostPorts};
 ghost use Rattle.decimals.specs.Decimal.{digitsOf};
 ghost use Rattle.texts.specs.Parts.{comma};
 ghost use Rattle.lines.specs.Format.{unended};
-ghost use Rattle.lines.specs.Reading.{lineFits};
+ghost use Rattle.words.specs.Shape.{lineFits};
 ghost use Rattle.lines.specs.Calls.{writeOf, writeBytes};
 ghost use Rattle.writing.specs.Answers.{writtenTold, Spells, Grown};
 

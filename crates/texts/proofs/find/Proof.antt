@@ -1,7 +1,7 @@
 -- `texts::find` gives the place of the first b: there is none before `at`, so the bytes from there on decide.
 use mathlib.Core.Path.{_≡_, sym, _∙_}
 use Prim.Native.Nat.{_-_}
-use lib.ListN.{length, drop}
+use lib.ListN.{drop}
 use borrow.Author.Needs.{needs}
 use Rattle.texts.specs.Parts.{firstOf}
 use Rattle.texts.proofs.Cuts.{shifted, look-first, look-found, look-on, look-end}

@@ -1,7 +1,7 @@
 -- `texts::has_key` compares byte by byte: those before `at` agree, so those from there on decide.
 use mathlib.Core.Path.{_≡_, refl, sym, _∙_}
 use Prim.Native.Nat.{_-_}
-use lib.ListN.{length, drop}
+use lib.ListN.{drop}
 use borrow.Author.Needs.{needs}
 use Rattle.texts.specs.Parts.{begins}
 use Rattle.texts.proofs.Keys.{begins-short, agree, differ, agreed}

@@ -8,7 +8,8 @@ use Rattle.listing.specs.Limits.{largest64}
 use Rattle.texts.specs.Parts.{comma, firstOf}
 use Rattle.texts.specs.Answers.{foundIs}
 use Rattle.decimals.specs.Answers.{readIs}
-use Rattle.reading.proofs.Reader.{found-inside, no-comma, before-comma}
+use Rattle.texts.proofs.Cuts.{first-inside}
+use Rattle.reading.proofs.Reader.{no-comma, before-comma}
 use Rattle.reading.proofs.order_lines.first_number.Statement.{statement}
 use Rattle.reading.proofs.order_lines.first_number.Tie as tie
 
@@ -19,12 +20,12 @@ at-comma c = sym (ap foundIs (c .k .given .1)) ∙ c .before .before .find .ensu
 slice-aggregate-read-number : tie.Need-slice-aggregate-read-number
 slice-aggregate-read-number c =
     let k = c .before .before in
-    sym (length-take-le _ _ (omega (arith, found-inside comma _ _ (sym (at-comma k)))))
+    sym (length-take-le _ _ (omega (arith, first-inside comma _ _ (sym (at-comma k)))))
 
 add-t10 : tie.Need-add-t10
 add-t10 c =
     let k = c .before .before .before .before .before .before in
-    let h = found-inside comma _ _ (sym (at-comma k)) in search needs
+    let h = first-inside comma _ _ (sym (at-comma k)) in search needs
 
 returns : tie.Need-returns
 returns c = record {
@@ -46,7 +47,7 @@ returns-3 c =
     let k = n .before .before .before in
     record {
       is = before-comma largest64 _ _ _ (at-comma k) (sym (ap readIs (c .before .n .given .1)) ∙ n .read-number .ensures);
-      within = omega (arith, found-inside comma _ _ (sym (at-comma k)));
+      within = omega (arith, first-inside comma _ _ (sym (at-comma k)));
     }
 
 pub first-number-spec : {M : Type 1} → statement M

@@ -5,7 +5,8 @@ use borrow.Author.Needs.{needs}
 use Rattle.listing.specs.Limits.{mostPorts, largest64}
 use Rattle.texts.specs.Parts.{begins}
 use Rattle.lines.specs.Format.{swapping, turning, marking, ending, key}
-use Rattle.reading.proofs.Reader.{key-room, line-swap, line-turn, line-mark, line-end, line-none}
+use Rattle.texts.proofs.Keys.{key-room}
+use Rattle.reading.proofs.Reader.{line-swap, line-turn, line-mark, line-end, line-none}
 use Rattle.reading.proofs.order_lines.line_in.Statement.{statement}
 use Rattle.reading.proofs.order_lines.line_in.Tie as tie
 
@@ -33,28 +34,28 @@ is-end : (c : tie.Then4)
 is-end c = sym (c .if4 .taken) ∙ c .before .has-key4 .ensures
 
 sub-swap-in : tie.Need-sub-swap-in
-sub-swap-in c = key-room (key swapping) _ (is-swap c)
+sub-swap-in c = key-room (key swapping) _ (sym (is-swap c))
 
 part-swap-in-start : tie.Need-part-swap-in-start
-part-swap-in-start c = let h = key-room (key swapping) _ (is-swap c) in search needs
+part-swap-in-start c = let h = key-room (key swapping) _ (sym (is-swap c)) in search needs
 
 sub-turn-in : tie.Need-sub-turn-in
-sub-turn-in c = key-room (key turning) _ (is-turn c)
+sub-turn-in c = key-room (key turning) _ (sym (is-turn c))
 
 part-turn-in-start : tie.Need-part-turn-in-start
-part-turn-in-start c = let h = key-room (key turning) _ (is-turn c) in search needs
+part-turn-in-start c = let h = key-room (key turning) _ (sym (is-turn c)) in search needs
 
 sub-mark-in : tie.Need-sub-mark-in
-sub-mark-in c = key-room (key marking) _ (is-mark c)
+sub-mark-in c = key-room (key marking) _ (sym (is-mark c))
 
 part-mark-in-start : tie.Need-part-mark-in-start
-part-mark-in-start c = let h = key-room (key marking) _ (is-mark c) in search needs
+part-mark-in-start c = let h = key-room (key marking) _ (sym (is-mark c)) in search needs
 
 sub-end-in : tie.Need-sub-end-in
-sub-end-in c = key-room (key ending) _ (is-end c)
+sub-end-in c = key-room (key ending) _ (sym (is-end c))
 
 part-end-in-start : tie.Need-part-end-in-start
-part-end-in-start c = let h = key-room (key ending) _ (is-end c) in search needs
+part-end-in-start c = let h = key-room (key ending) _ (sym (is-end c)) in search needs
 
 returns : tie.Need-returns
 returns c = line-swap largest64 mostPorts _ _ (is-swap (c .before .before)) (c .swap-in .ensures)

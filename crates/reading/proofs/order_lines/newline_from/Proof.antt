@@ -3,7 +3,8 @@ use mathlib.Core.Path.{ap, _∙_}
 use native.Mathlib.Omega.{arith}
 use borrow.Author.Needs.{needs}
 use Rattle.texts.specs.Parts.{newline, firstOf}
-use Rattle.reading.proofs.Reader.{to-the-end, none-past}
+use Rattle.texts.proofs.Cuts.{to-the-end}
+use Rattle.reading.proofs.Reader.{none-past}
 use Rattle.reading.proofs.order_lines.newline_from.Statement.{statement}
 use Rattle.reading.proofs.order_lines.newline_from.Tie as tie
 

@@ -1,11 +1,9 @@
 -- `ways::coming::before_first`: a panel that the check accepts is a permutation, from which the carriage comes; no other panel may stand there.
-use mathlib.Core.Path.{_≡_, sym, ap, _∙_}
-use mathlib.Core.Bool.{false}
+use mathlib.Core.Path.{sym, ap, _∙_}
 use mathlib.Core.Option.{some}
 use lib.ListN.{take}
 use lib.Seq.{length-take-le}
 use borrow.Author.Needs.{needs}
-use Rattle.listing.specs.Limits.{mostPorts}
 use Rattle.listing.specs.Pattern.{Permutation}
 use Rattle.listing.proofs.Ranks.{at-derangement}
 use Rattle.promise.specs.Carriage.{carriage}

@@ -1,5 +1,5 @@
 -- `ways::coming::carriage_next`: the first wrong jack swaps with the jack that holds the port wanted there.
-use mathlib.Core.Path.{sym, _∙_}
+use mathlib.Core.Path.{_∙_}
 use borrow.Author.Needs.{needs}
 use Rattle.ways.proofs.Differ.{wrong-among}
 use Rattle.ways.proofs.Orders.{carriage-done, carriage-fetched}

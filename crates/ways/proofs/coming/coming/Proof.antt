@@ -1,10 +1,9 @@
 -- `ways::coming::coming`: at step 0 the carriage to the leg's first pattern, later the way of the move beside the last mark's rank.
-use mathlib.Core.Path.{_≡_, sym, ap, _∙_}
+use mathlib.Core.Path.{sym, ap, _∙_}
 use Prim.Native.Nat.{_-_, _<_}
 use lib.ListN.{take}
 use borrow.Author.Needs.{needs}
 use Rattle.listing.specs.Count.{count}
-use Rattle.listing.specs.Orders.{InForm}
 use Rattle.promise.specs.Campaign.{toCome}
 use Rattle.promise.specs.Derangements.{derangements}
 use Rattle.ways.specs.Coming.{nextOf, legIs}

@@ -1,10 +1,10 @@
 -- `ways::coming::on_the_way` goes back from the end of the way: nothing is to come there, and before each order that order is.
 use mathlib.Core.Path.{ap, _∙_, sym, subst}
-use mathlib.Core.List.{[], _∷_}
+use mathlib.Core.List.{[]}
 use borrow.Author.Needs.{needs}
 use lib.ListN.{take}
-use Rattle.listing.specs.Orders.{swap, orders, InForm}
-use Rattle.words.specs.Meaning.{orderOf, moveOf}
+use Rattle.listing.specs.Orders.{orders, InForm}
+use Rattle.words.specs.Meaning.{moveOf}
 use Rattle.promise.specs.Campaign.{rest}
 use Rattle.ways.specs.Coming.{nextOf}
 use Rattle.ways.proofs.Orders.{way-order}

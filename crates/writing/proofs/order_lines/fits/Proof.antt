@@ -2,7 +2,7 @@
 use mathlib.Core.Path.{sym, ap, _∙_}
 use borrow.Author.Needs.{needs}
 use Rattle.listing.specs.Limits.{mostPorts}
-use Rattle.lines.specs.Reading.{lineFits}
+use Rattle.words.specs.Shape.{lineFits}
 use Rattle.writing.proofs.order_lines.fits.Statement.{statement}
 use Rattle.writing.proofs.order_lines.fits.Tie as tie
 

@@ -5,7 +5,7 @@ use native.Mathlib.Omega.{arith}
 use borrow.Author.Needs.{needs}
 use Rattle.listing.specs.Limits.{mostPorts}
 use Rattle.lines.specs.Format.{lineText}
-use Rattle.lines.specs.Reading.{lineFits}
+use Rattle.words.specs.Shape.{lineFits}
 use Rattle.lines.proofs.Written.{write-unfit}
 use Rattle.writing.specs.Answers.{Spells}
 use Rattle.writing.proofs.Spelling.{spells-within, spells-line, spelled-room, spelled-front}

@@ -1,0 +1,24 @@
+-- What was accepted after several steps was accepted by each.
+-- Assumes nothing.
+use mathlib.Core.Path.{_≡_, refl}
+use mathlib.Core.Bool.{true≢false}
+use Prim.Native.Nat.{ℕ}
+use Rattle.words.specs.Told.{Told, Spot, accepted, refused, then}
+
+-- what is refused is not accepted
+pub not-both : {A : Type 0} {k : ℕ} {s : Spot} {a : A} → refused k s ≡ accepted a → ⊥
+not-both e = true≢false (cc)
+
+-- what is accepted is one thing
+pub accepted-once : {A : Type 0} {a b : A} → accepted a ≡ accepted b → a ≡ b
+accepted-once e = cc
+
+-- a call that goes on: both it and the one before it were accepted
+pub record Both {A B : Type 0} (told : Told A) (go : A → Told B) (b : B) : Type 0 where
+  pub first : A
+  pub taken : told ≡ accepted first
+  pub on : go first ≡ accepted b
+
+pub then-accepted : {A B : Type 0} (told : Told A) (go : A → Told B) (b : B) → then told go ≡ accepted b → Both told go b
+then-accepted (accepted a) go b e = record { first = a; taken = refl; on = e }
+then-accepted (refused k s) go b e = absurd (not-both e)
