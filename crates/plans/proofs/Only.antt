@@ -12,7 +12,7 @@ use Rattle.plans.specs.declared.Judged.the-variants.{Accepted, Refused}
 use Rattle.plans.specs.declared.ReadPlan.{ReadPlan}
 
 -- two judgements that tell the same are the same
-judged-once : (r s : Judged) → judgedTold r ≡ judgedTold s → r ≡ s
+pub judged-once : (r s : Judged) → judgedTold r ≡ judgedTold s → r ≡ s
 judged-once Accepted Accepted e = refl
 judged-once Accepted (Refused g) e = cc
 judged-once (Refused f) Accepted e = cc

@@ -3,12 +3,12 @@
 use mathlib.Core.Path.{_≡_, refl, sym, ap, _∙_, subst}
 use mathlib.Core.Bool.{Bool, true, false, cond, true≢false}
 use mathlib.Core.Logic.{_≢_}
-use mathlib.Core.List.{List, [], _∷_}
+use mathlib.Core.List.{List, [], _∷_, _++_}
 use mathlib.Core.Option.{Option, none, some, orElse}
 use Prim.Native.Nat.{ℕ, zero, suc, _-_, _≤_, _<_}
 use native.Mathlib.Omega.{arith}
-use lib.ListN.{length, take}
-use lib.Seq.{length-take-le}
+use lib.ListN.{length, take, drop}
+use lib.Seq.{length-take-le, take-at}
 use borrow.Author.Tests.{ne-eqb}
 use Rattle.listing.specs.Numbers.{Among}
 use Rattle.listing.specs.Pattern.{entry, Permutation}
@@ -18,6 +18,7 @@ use Rattle.listing.specs.Listing.{at}
 use Rattle.listing.specs.Neighbours.{moveBeside}
 use Rattle.listing.specs.Limits.{mostPorts}
 use Rattle.listing.proofs.Numbers.{from-two}
+use Rattle.listing.proofs.Panels.{length-carry}
 use Rattle.listing.proofs.Neighbours.{beside-leads}
 use Rattle.promise.specs.Tests.{same, isPermutation}
 use Rattle.promise.specs.Carriage.{holder, carriage}
@@ -63,6 +64,11 @@ rest-order p o os q = by (rest (carry o p) os q) (same p q)
     by none false = refl
     by (some []) b = refl
     by (some (v ∷ vs)) b = refl
+
+-- the front of an array whose panel an order was carried out on
+pub carried-front : (n : ℕ) (p r : List ℕ) (o : Order) → n ≤ length p → r ≡ carry o (take n p) ++ drop n p → take n r ≡ carry o (take n p)
+carried-front n p r o h e =
+    ap (take n) e ∙ take-at (carry o (take n p)) (drop n p) n (length-carry o (take n p) ∙ length-take-le n p h)
 
 -- so what is found on the way after an order, and else the order itself, is what is found on the way before it (a: the panel after the order)
 pub way-order : (p a : List ℕ) (o : Order) (os : List Order) (q : List ℕ) (f r : Option (Option Order)) → a ≡ carry o p → f ≡ nextOf (rest a os q)

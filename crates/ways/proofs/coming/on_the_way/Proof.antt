@@ -7,7 +7,7 @@ use Rattle.listing.specs.Orders.{orders, InForm}
 use Rattle.words.specs.Meaning.{moveOf}
 use Rattle.promise.specs.Campaign.{rest}
 use Rattle.ways.specs.Coming.{nextOf}
-use Rattle.ways.proofs.Orders.{way-order}
+use Rattle.ways.proofs.Orders.{carried-front, way-order}
 use Rattle.ways.proofs.coming.on_the_way.Statement.{statement}
 use Rattle.ways.proofs.coming.on_the_way.Tie as tie
 
@@ -35,7 +35,7 @@ returns-2 : tie.Need-returns-2
 returns-2 c =
     let s = c .before .before .before .before .before .before in
     let a = s .args in
-    way-order (take (a .n) (a .p)) _ _ [] (take (a .n) (a .q)) _ _ (c .before .before .after-order .ensures) (c .before .arrived2 .ensures) (c .or-next .ensures)
+    way-order (take (a .n) (a .p)) _ _ [] (take (a .n) (a .q)) _ _ (carried-front (a .n) (a .p) _ _ (search needs) (c .before .before .after-order .ensures)) (c .before .arrived2 .ensures) (c .or-next .ensures)
     ∙ ap (λ v. nextOf (rest (take (a .n) (a .p)) (orders (moveOf v)) (take (a .n) (a .q)))) (sym (c .before .before .before .before .m .given .1))
 
 returns-3 : tie.Need-returns-3
@@ -43,8 +43,8 @@ returns-3 c =
     let t = c .before .before .before .before in
     let s = t .before .before .before .before in
     let a = s .args in
-    way-order (take (a .n) (a .p)) _ _ _ (take (a .n) (a .q)) _ _ (t .after-order2 .ensures)
-    (way-order _ _ _ [] (take (a .n) (a .q)) _ _ (c .before .before .before .after-order3 .ensures) (c .before .before .arrived3 .ensures) (c .before .or-next2 .ensures))
+    way-order (take (a .n) (a .p)) _ _ _ (take (a .n) (a .q)) _ _ (carried-front (a .n) (a .p) _ _ (search needs) (t .after-order2 .ensures))
+    (way-order _ _ _ [] (take (a .n) (a .q)) _ _ (carried-front (a .n) _ _ _ (search needs) (c .before .before .before .after-order3 .ensures)) (c .before .before .arrived3 .ensures) (c .before .or-next2 .ensures))
     (c .or-next3 .ensures)
     ∙ ap (λ v. nextOf (rest (take (a .n) (a .p)) (orders (moveOf v)) (take (a .n) (a .q)))) (sym (t .before .before .m2 .given .1))
 

@@ -1,10 +1,9 @@
 -- `ways::panels::after_order` carries the order out on the front of the array.
-use mathlib.Core.Path.{sym, ap, _∙_}
+use mathlib.Core.Path.{sym, ap}
 use mathlib.Core.List.{_++_}
-use lib.ListN.{take, drop}
-use lib.Seq.{length-take-le, take-at}
+use lib.ListN.{drop}
+use lib.Seq.{length-take-le}
 use borrow.Author.Needs.{needs}
-use Rattle.listing.proofs.Panels.{length-carry}
 use Rattle.ways.proofs.panels.after_order.Statement.{statement}
 use Rattle.ways.proofs.panels.after_order.Tie as tie
 
@@ -12,11 +11,7 @@ carry-order-requires : tie.Need-carry-order-requires
 carry-order-requires c κs = let a = c .before .args in rw (length-take-le (a .n) (a .p) (search needs)) (c .before .pre .1)
 
 returns : tie.Need-returns
-returns c =
-    let a = c .before .before .before .args in
-    let e = c .before .carry-order .ensures in
-    ap (λ r. take (a .n) (r ++ drop (a .n) (a .p))) e
-    ∙ take-at _ (drop (a .n) (a .p)) (a .n) (length-carry _ (take (a .n) (a .p)) ∙ length-take-le (a .n) (a .p) (search needs))
+returns c = let a = c .before .before .before .args in ap (λ r. r ++ drop (a .n) (a .p)) (c .before .carry-order .ensures)
 
 pub after-order-spec : {M : Type 1} → statement M
 after-order-spec =

@@ -1,0 +1,124 @@
+-- What a call answers, by where the state stands: the clauses of the model, one by one.
+-- Assumes nothing.
+use mathlib.Core.Path.{_≡_, refl, ap, _∙_}
+use mathlib.Core.Bool.{Bool, true, false, cond, _&&_, true≢false}
+use mathlib.Core.List.{List, [], _∷_}
+use mathlib.Core.Option.{some}
+use Prim.Native.Nat.{ℕ, suc, _+_, _≤_, _<_}
+use native.Mathlib.Omega.{arith}
+use borrow.Author.Tests.{lt-ltb, le-ltb, le-leb, lt-leb}
+use Rattle.listing.specs.Orders.{Order, InShape}
+use Rattle.listing.specs.Limits.{largest64}
+use Rattle.listing.proofs.Numbers.{from-two}
+use Rattle.listing.specs.Count.{count}
+use Rattle.promise.specs.Plan.{Leg}
+use Rattle.promise.specs.Campaign as model
+use Rattle.promise.specs.Campaign.{Call, request, report, movement, mark, theEnd, taken, refusal}
+use Rattle.promise.specs.Campaign.{todo, toCome, rankOf, closedMarks, offer}
+use Rattle.promise.specs.Derangements.{derangements}
+use Rattle.promise.proofs.Ways.{coming}
+use Rattle.promise.proofs.Derangements.{lawful}
+use Rattle.ways.proofs.Walks.{walk-listed}
+use Rattle.fitness.specs.State.{settingOf, momentOf}
+use Rattle.fitness.specs.Fitness.{placesFit, fit}
+use Rattle.fitness.specs.declared.State.{State}
+use Rattle.fitness.proofs.Fit.{fit-parts, moment-fit, fit-inside}
+use Rattle.fitness.proofs.Places.{Sized, number-room}
+use Rattle.legs.specs.Rules.{legsOf}
+use Rattle.legs.proofs.Marks.{number-before}
+use Rattle.promise.proofs.Steps.{due-standing}
+use Rattle.campaign.specs.Calls.{answerOf, roomed}
+
+-- a state that is not fit
+pub unfit-answer : (c : Call) (s : State) → fit s ≡ false → answerOf c s ≡ refusal 15
+unfolding answerOf fit model.answer
+unfit-answer c s e = by c (placesFit s) (model.fit (settingOf s) (momentOf s)) refl refl e
+  where
+    by : (c : Call) (p m : Bool) → placesFit s ≡ p → model.fit (settingOf s) (momentOf s) ≡ m → (p && m) ≡ false
+        → cond p (model.answer (settingOf s) c (momentOf s)) (refusal 15) ≡ refusal 15
+    by c false m ep em h = refl
+    by (request room) true false ep em h = rw em refl
+    by (report kind) true false ep em h = rw em refl
+    by c true true ep em h = absurd (true≢false h)
+
+module _ (s : State) (f : fit s ≡ true) where
+  -- ---- requests
+
+  -- while a mark stands
+  pub standing-answer : (room : ℕ) → s .standing ≡ true → answerOf (request room) s ≡ refusal 13
+  unfolding answerOf model.answer
+  standing-answer room st = rw (fit-parts s f .0, fit-parts s f .1, st) refl
+
+  -- else what is offered, where there is room for its line
+  offered : (room : ℕ) → s .standing ≡ false → answerOf (request room) s ≡ roomed room (offer (settingOf s) (momentOf s))
+  unfolding answerOf model.answer roomed
+  offered room st = rw (fit-parts s f .0, fit-parts s f .1, st) refl
+
+  -- the end
+  pub end-answer : (room : ℕ) → s .standing ≡ false → s .ended ≡ true
+      → answerOf (request room) s ≡ roomed room (theEnd (closedMarks (settingOf s) (momentOf s)))
+  unfolding offer
+  end-answer room st en = offered room st ∙ ap (roomed room) (rw en refl)
+
+  -- the mark
+  pub mark-answer : (room : ℕ) → s .standing ≡ false → s .ended ≡ false → todo (settingOf s) (momentOf s) ≡ some []
+      → answerOf (request room) s ≡ roomed room (mark (closedMarks (settingOf s) (momentOf s)) (rankOf (settingOf s) (momentOf s)))
+  unfolding offer
+  mark-answer room st en w = offered room st ∙ ap (roomed room) (rw (en, w) refl)
+
+  -- the next order
+  pub order-answer : (room : ℕ) (o : Order) (os : List Order) → s .standing ≡ false → s .ended ≡ false → todo (settingOf s) (momentOf s) ≡ some (o ∷ os)
+      → answerOf (request room) s ≡ roomed room (movement o)
+  unfolding offer
+  order-answer room o os st en w = offered room st ∙ ap (roomed room) (rw (en, w) refl)
+
+  -- ---- reports
+
+  pub kind-answer : (kind : ℕ) → 2 < kind → answerOf (report kind) s ≡ refusal 14
+  unfolding answerOf model.answer
+  kind-answer kind h = rw (fit-parts s f .0, fit-parts s f .1, lt-ltb 2 kind h) refl
+
+  pub none-answer : (kind : ℕ) → kind ≤ 2 → s .standing ≡ false → answerOf (report kind) s ≡ refusal 12
+  unfolding answerOf model.answer
+  none-answer kind h st = rw (fit-parts s f .0, fit-parts s f .1, le-ltb 2 kind h, st) refl
+
+  pub full-answer : s .standing ≡ true → 65535 ≤ s .errors → answerOf (report 1) s ≡ refusal 16
+  unfolding answerOf model.answer
+  full-answer st h = rw (fit-parts s f .0, fit-parts s f .1, st, le-leb 65535 (s .errors) h) refl
+
+  pub error-answer : s .standing ≡ true → s .errors < 65535 → answerOf (report 1) s ≡ taken
+  unfolding answerOf model.answer
+  error-answer st h = rw (fit-parts s f .0, fit-parts s f .1, st, lt-leb 65535 (s .errors) h) refl
+
+  pub ran-answer : s .standing ≡ true → answerOf (report 0) s ≡ taken
+  unfolding answerOf model.answer
+  ran-answer st = rw (fit-parts s f .0, fit-parts s f .1, st) refl
+
+  pub gave-up-answer : s .standing ≡ true → answerOf (report 2) s ≡ taken
+  unfolding answerOf model.answer
+  gave-up-answer st = rw (fit-parts s f .0, fit-parts s f .1, st) refl
+
+-- ---- counts
+
+-- while a mark stands, one more mark can be counted: it is one of the plan's
+pub counts-room : (s : State) → Sized s → fit s ≡ true → s .standing ≡ true → s .covered + s .opened < largest64
+counts-room s z f st =
+    let m = moment-fit s f in
+    let I = fit-inside s f in
+    omega (arith, due-standing (momentOf s) m st, number-before (legsOf (s .plan)) (s .leg) (s .step) (I .leg), number-room s z I)
+
+-- ---- the next order is in shape
+
+-- of the orders still to come the first is in shape on the panel
+NextShaped : ℕ → Type 0
+NextShaped n = (l : Leg) (k : ℕ) (q : List ℕ) (o : Order) (os : List Order) → l .start < count n → toCome (derangements n) l k q ≡ some (o ∷ os) → InShape n o
+
+shaped-from-two : (m : ℕ) → NextShaped (suc (suc m))
+unfolding NextShaped derangements
+shaped-from-two m l k q o os h e =
+    coming (derangements (suc (suc m))) (lawful m) l k (λ i b. walk-listed (suc (suc m)) (omega arith) (l .start) (l .back) i h) q (o ∷ os) e .shaped .0
+
+pub next-shaped : (n : ℕ) → 2 ≤ n → (l : Leg) (k : ℕ) (q : List ℕ) (o : Order) (os : List Order) → l .start < count n
+    → toCome (derangements n) l k q ≡ some (o ∷ os) → InShape n o
+unfolding NextShaped
+next-shaped n two = from-two NextShaped shaped-from-two n two

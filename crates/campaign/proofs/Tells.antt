@@ -1,0 +1,88 @@
+-- Answers and the states beside them: what is refused, what is taken, what is handed out.
+-- Assumes nothing.
+use mathlib.Core.Path.{_≡_, refl, sym, ap, _∙_, subst}
+use mathlib.Core.Bool.{true}
+use mathlib.Core.List.{List}
+use Prim.Native.Nat.{ℕ}
+use lib.ListN.{length}
+use Rattle.words.specs.Told.{Told, Spot, refused, nowhere}
+use Rattle.words.specs.Meaning.{numberOf}
+use Rattle.words.specs.declared.Line.{Line}
+use Rattle.words.specs.declared.Line.the-variants.{Movement, Mark, End}
+use Rattle.words.specs.declared.Reason.{Reason}
+use Rattle.words.specs.declared.Place.the-variants.{Nowhere}
+use Rattle.promise.specs.Campaign as model
+use Rattle.promise.specs.Campaign.{Call, request, report, taken, refusal}
+use Rattle.fitness.specs.State.{answerText, width, momentOf}
+use Rattle.fitness.specs.declared.State.{State}
+use Rattle.campaign.specs.Calls.{answerOf, toldOf, after, over, bytesOf, lineIs}
+use Rattle.campaign.specs.Answers.{answerTold, heardTold, RequestIs, ReportIs}
+use Rattle.campaign.specs.declared.Requested.{Requested}
+use Rattle.campaign.specs.declared.Reported.{Reported}
+use Rattle.campaign.specs.declared.Answer.the-variants.{Refused as Answer-Refused}
+use Rattle.campaign.specs.declared.Heard.the-variants.{Taken, Refused as Heard-Refused}
+use Rattle.campaign.proofs.Moments.{made, panel-stays, moment-stays, refusal-leaves}
+
+module _ (c : Call) (a : model.Answer) (s : State) where
+  -- a refused request
+  pub request-refused : (r : Requested) (why : Reason) (k : ℕ)
+      → r ≡ record { campaign = record { state = s }; answer = Answer-Refused (record { reason = why; place = Nowhere }); written = 0 }
+      → numberOf why ≡ k → a ≡ refusal k → RequestIs c a s r
+  request-refused r why k e n f = record {
+    answer = ap (λ x. answerTold (x .answer)) e ∙ ap (λ j. refused j nowhere) n ∙ ap toldOf (sym f);
+    state = ap (λ x. x .campaign .state) e ∙ refusal-leaves c k s ∙ ap (λ x. after c x s) (sym f);
+    written = ap (λ x. x .written) e ∙ ap width (sym f);
+  }
+
+  -- a refused report
+  pub report-refused : (r : Reported) (why : Reason) (k : ℕ)
+      → r ≡ record { campaign = record { state = s }; answer = Heard-Refused (record { reason = why; place = Nowhere }) }
+      → numberOf why ≡ k → a ≡ refusal k → ReportIs c a s r
+  report-refused r why k e n f = record {
+    answer = ap (λ x. heardTold (x .answer)) e ∙ ap (λ j. refused j nowhere) n ∙ ap toldOf (sym f);
+    state = ap (λ x. x .campaign .state) e ∙ refusal-leaves c k s ∙ ap (λ x. after c x s) (sym f);
+  }
+
+  -- a report that is taken
+  pub report-taken : (r : Reported) (t : State) → r ≡ record { campaign = record { state = t }; answer = Taken } → a ≡ taken → t ≡ after c taken s
+      → ReportIs c a s r
+  report-taken r t e f g = record {
+    answer = ap (λ x. heardTold (x .answer)) e ∙ ap toldOf (sym f);
+    state = ap (λ x. x .campaign .state) e ∙ g ∙ ap (λ x. after c x s) (sym f);
+  }
+
+-- the same answer under another name
+pub request-as : (c : Call) (a b : model.Answer) (s : State) (r : Requested) → a ≡ b → RequestIs c a s r → RequestIs c b s r
+request-as c a b s r e h = subst (λ x. RequestIs c x s r) e h
+
+-- a refusal tells the same of any call
+pub retold : {A B : Type 0} (j k : ℕ) (p q : Spot) → _≡_ {A = Told A} (refused j p) (refused k q) → _≡_ {A = Told B} (refused j p) (refused k q)
+retold j k p q e = let n : j ≡ k = cc in let s : p ≡ q = cc in λ i. refused (n i) (s i)
+
+-- what is left after a line does not depend on the room
+pub any-room : (l : Line) (room : ℕ) (s : State) → after (request 0) (lineIs l) s ≡ after (request room) (lineIs l) s
+unfolding model.after
+any-room (Movement o) room s = refl
+any-room (Mark k r) room s = refl
+any-room (End k) room s = refl
+
+-- a line that was handed out
+pub line-leaves-mark : (k r : ℕ) (s : State) → made s (s .leg) (s .step) (s .covered) (s .opened) (s .errors) true (s .ended) (s .panel) ≡ after (request 0) (lineIs (Mark k r)) s
+unfolding model.after
+line-leaves-mark k r s = sym (panel-stays (model.withMark true (momentOf s)) s refl)
+
+pub line-leaves-end : (k : ℕ) (s : State) → s ≡ after (request 0) (lineIs (End k)) s
+unfolding model.after
+line-leaves-end k s = sym (moment-stays s)
+
+-- the bytes that a request leaves, by its answer
+pub bytes-by : (s : State) (buf : List ℕ) (a : model.Answer) → answerOf (request (length buf)) s ≡ a → over (answerText a) buf ≡ bytesOf s buf
+unfolding bytesOf
+bytes-by s buf a e = ap (λ x. over (answerText x) buf) (sym e)
+
+pub bytes-stay : (s : State) (buf : List ℕ) (k : ℕ) → answerOf (request (length buf)) s ≡ refusal k → buf ≡ bytesOf s buf
+bytes-stay s buf k e = bytes-by s buf (refusal k) e
+
+-- a report by the number of its kind
+pub report-kind : (j k : ℕ) (s : State) (r : Reported) → k ≡ j → ReportIs (report j) (answerOf (report j) s) s r → ReportIs (report k) (answerOf (report k) s) s r
+report-kind j k s r e h = subst (λ x. ReportIs (report x) (answerOf (report x) s) s r) (sym e) h

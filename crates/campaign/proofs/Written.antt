@@ -1,0 +1,85 @@
+-- What the writer of lines tells, for a line of the panel: it is written where there is room, and refused with 2 where there is none.
+-- Assumes nothing.
+use mathlib.Core.Path.{_≡_, refl, sym, ap, _∙_}
+use mathlib.Core.Bool.{true}
+use mathlib.Core.List.{List}
+use Prim.Native.Nat.{ℕ, _≤_, _<_}
+use native.Mathlib.Omega.{arith}
+use lib.ListN.{length}
+use borrow.Author.Tests.{lt-ltb, le-ltb}
+use Rattle.listing.specs.Limits.{mostPorts}
+use Rattle.listing.proofs.Numbers.{either, below?}
+use Rattle.words.specs.Told.{Told, Spot, accepted, refused, nowhere}
+use Rattle.words.specs.Shape.{lineFits}
+use Rattle.words.specs.declared.Order.the-variants.{Swap, Turn}
+use Rattle.words.specs.declared.Line.{Line}
+use Rattle.words.specs.declared.Line.the-variants.{Movement, Mark, End}
+use Rattle.words.proofs.Once.{order-back}
+use Rattle.words.proofs.Shape.{fits-passes, passes-fits}
+use Rattle.words.proofs.Told.{not-both, accepted-once}
+use Rattle.lines.specs.Format.{lineText}
+use Rattle.lines.specs.Calls.{writeOf, writeBytes}
+use Rattle.lines.proofs.Written.{write-room, write-front}
+use Rattle.promise.specs.Campaign.{refusal}
+use Rattle.fitness.specs.State.{answerText, width}
+use Rattle.campaign.specs.Calls.{over, lineIs, roomed}
+
+-- the text of the answer that a line is, is the line's
+pub text-of-line : (l : Line) → answerText (lineIs l) ≡ lineText l
+text-of-line (Movement o) = ap (λ x. lineText (Movement x)) (order-back o)
+text-of-line (Mark k r) = refl
+text-of-line (End k) = refl
+
+-- a line that fits fewer jacks fits more
+fits-more : (n : ℕ) → n ≤ mostPorts → (l : Line) → lineFits n l ≡ true → lineFits mostPorts l ≡ true
+fits-more n h (Movement (Swap a b)) e =
+    let f = passes-fits n (Movement (Swap a b)) e in
+    fits-passes mostPorts (Movement (Swap a b)) (f .0, f .1, omega (arith, f .2))
+fits-more n h (Movement (Turn a b c)) e =
+    let f = passes-fits n (Movement (Turn a b c)) e in
+    fits-passes mostPorts (Movement (Turn a b c)) (f .0, f .1, omega (arith, f .2), f .3, omega (arith, f .4), f .5)
+fits-more n h (Mark k r) e = refl
+fits-more n h (End k) e = refl
+
+module _ (n : ℕ) (few : n ≤ mostPorts) (l : Line) (fits : lineFits n l ≡ true) (buf : List ℕ) where
+  -- where it was written there was room: so the answer stands, and its text is in front
+  pub record WrittenAs (k : ℕ) : Type 0 where
+    pub bytes : k ≡ width (lineIs l)
+    pub answer : lineIs l ≡ roomed (length buf) (lineIs l)
+    pub left : writeBytes mostPorts l buf ≡ over (answerText (roomed (length buf) (lineIs l))) buf
+
+  -- there is room
+  room-answer : length (lineText l) ≤ length buf → lineIs l ≡ roomed (length buf) (lineIs l)
+  unfolding roomed
+  room-answer h = let w : length (answerText (lineIs l)) ≤ length buf = rw (text-of-line l) h in rw (le-ltb (length buf) (length (answerText (lineIs l))) w) refl
+
+  -- there is none
+  pub short-answer : length buf < length (lineText l) → refusal 2 ≡ roomed (length buf) (lineIs l)
+  unfolding roomed
+  short-answer h = let w : length buf < length (answerText (lineIs l)) = rw (text-of-line l) h in rw (lt-ltb (length buf) (length (answerText (lineIs l))) w) refl
+
+  pub was-written : (k : ℕ) → accepted k ≡ writeOf mostPorts l buf → WrittenAs k
+  was-written k e =
+      either (below? (length buf) (length (lineText l)))
+      (λ h. absurd (not-both (write-room mostPorts l buf (fits-more n few l fits) h .0 ∙ sym e)))
+      (λ h.
+      let w = write-front mostPorts l buf (fits-more n few l fits) h in
+      record {
+        bytes = accepted-once (e ∙ sym (w .0)) ∙ ap length (sym (text-of-line l));
+        answer = room-answer h;
+        left = sym (w .1) ∙ ap (λ t. over t buf) (sym (text-of-line l)) ∙ ap (λ a. over (answerText a) buf) (room-answer h);
+      })
+
+  -- where it was not there was none: 2 at no place, and the buffer is as it was
+  pub record NotWritten (k : ℕ) (s : Spot) : Type 0 where
+    pub told : _≡_ {A = Told ℕ} (refused k s) (refused 2 nowhere)
+    pub answer : refusal 2 ≡ roomed (length buf) (lineIs l)
+    pub left : writeBytes mostPorts l buf ≡ buf
+
+  pub not-written : (k : ℕ) (s : Spot) → refused k s ≡ writeOf mostPorts l buf → NotWritten k s
+  not-written k s e =
+      either (below? (length buf) (length (lineText l)))
+      (λ h.
+      let w = write-room mostPorts l buf (fits-more n few l fits) h in
+      record { told = e ∙ sym (w .0); answer = short-answer h; left = sym (w .1) })
+      (λ h. absurd (not-both (e ∙ sym (write-front mostPorts l buf (fits-more n few l fits) h .0))))

@@ -1,0 +1,47 @@
+// The campaign: it hands out orders and takes reports, and keeps the count of what was covered. Its state goes into each call and the new one comes back.
+pub mod beginning;
+pub mod reports;
+pub mod requests;
+
+use fitness::State;
+use plans::Judged;
+use words::Order;
+use words::Refusal;
+
+// A campaign: its state.
+pub struct Campaign {
+    pub state: State,
+}
+
+// A text judged as a plan, and the campaign on it: its first state, or all zeros if it was refused.
+pub struct Begun {
+    pub judged: Judged,
+    pub campaign: Campaign,
+}
+
+// The answer to a request: a movement order, a mark with its number and rank, the end with the plan's marks, or a refusal.
+pub enum Answer {
+    Movement(Order),
+    Mark(u64, u64),
+    End(u64),
+    Refused(Refusal),
+}
+
+// A request's answer, the campaign that it leaves, and how many bytes of the buffer its line takes.
+pub struct Requested {
+    pub campaign: Campaign,
+    pub answer: Answer,
+    pub written: usize,
+}
+
+// The answer to a report.
+pub enum Heard {
+    Taken,
+    Refused(Refusal),
+}
+
+// A report's answer, and the campaign that it leaves.
+pub struct Reported {
+    pub campaign: Campaign,
+    pub answer: Heard,
+}

@@ -1,0 +1,118 @@
+// Reports on the standing mark.
+use crate::Campaign;
+use crate::Heard;
+use crate::Reported;
+use fitness::State;
+use fitness::judging::Stance;
+use fitness::judging::judge;
+use legs::leg_at;
+use words::Reason;
+use words::nowhere;
+ghost use mathlib.Core.Path.{_≡_};
+ghost use mathlib.Core.Bool.{true, false};
+ghost use Rattle.words.specs.declared.Place.the-variants.{Nowhere};
+ghost use Rattle.promise.specs.Campaign.{report, closed};
+ghost use Rattle.fitness.specs.State.{settingOf, momentOf, atMoment};
+ghost use Rattle.fitness.specs.Fitness.{fit, InPlan};
+ghost use Rattle.campaign.specs.declared.Heard.the-variants.{Taken, Refused};
+ghost use Rattle.campaign.specs.Calls.{answerOf};
+ghost use Rattle.campaign.specs.Answers.{ReportIs};
+
+// The mark is closed: on to the next step, or to step 0 of the next leg; at the plan's last mark leg and step stay and the end is shown.
+fn closed_mark(s: State) -> State
+    requires { ⌜ InPlan s ⌝ }
+    ensures { λ r. ⌜ r ≡ atMoment (closed (settingOf s) (momentOf s)) s ⌝ }
+{
+    let plan = s.plan;
+    let l = leg_at(plan, s.leg);
+    let mut next = s;
+    next.standing = false;
+    next.ended = false;
+    if s.step < l.run {
+        next.step = s.step + 1;
+        return next;
+    }
+    if s.leg + 1 < plan.legs {
+        next.leg = s.leg + 1;
+        next.step = 0;
+        return next;
+    }
+    next.ended = true;
+    next
+}
+
+// A refused report leaves the state as it was.
+fn refused(s: State, reason: Reason) -> Reported
+    ensures { λ r. ⌜ r ≡ record { campaign = record { state = s }; answer = Refused (record { reason = reason; place = Nowhere }) } ⌝ }
+{
+    Reported {
+        campaign: Campaign { state: s },
+        answer: Heard::Refused(nowhere(reason)),
+    }
+}
+
+// A report that is taken.
+fn taken(s: State) -> Reported
+    ensures { λ r. ⌜ r ≡ record { campaign = record { state = s }; answer = Taken } ⌝ }
+{
+    Reported {
+        campaign: Campaign { state: s },
+        answer: Heard::Taken,
+    }
+}
+
+// A report on a standing mark: 0 ran, 1 error, 2 gave up.
+fn of_mark(s: State, kind: u8) -> Reported
+    requires { ⌜ (fit s ≡ true) × (s .standing ≡ true) ⌝ }
+    ensures { λ r. ⌜ ReportIs (report kind) (answerOf (report kind) s) s r ⌝ }
+{
+    if 2 < kind {
+        return refused(s, Reason::Kind);
+    }
+    let mut next = s;
+    match kind {
+        0 => {
+            next.covered = s.covered + 1;
+            taken(closed_mark(next))
+        }
+        1 => {
+            if 65535 <= s.errors {
+                return refused(s, Reason::Errors);
+            }
+            next.errors = s.errors + 1;
+            next.standing = false;
+            taken(next)
+        }
+        _ => {
+            next.opened = s.opened + 1;
+            taken(closed_mark(next))
+        }
+    }
+}
+
+// A report where no mark stands.
+fn of_none(s: State, kind: u8) -> Reported
+    requires { ⌜ (fit s ≡ true) × (s .standing ≡ false) ⌝ }
+    ensures { λ r. ⌜ ReportIs (report kind) (answerOf (report kind) s) s r ⌝ }
+{
+    if 2 < kind {
+        return refused(s, Reason::Kind);
+    }
+    refused(s, Reason::NoMark)
+}
+
+impl Campaign {
+    // What the bench says of the standing mark: 0 ran, 1 error, 2 gave up.
+    pub fn report(self, kind: u8) -> Reported
+        ensures { λ r. ⌜ ReportIs (report kind) (answerOf (report kind) (self .state)) (self .state) r ⌝ }
+    {
+        let s = self.state;
+        match judge(s) {
+            Stance::Unfit => refused(s, Reason::Unfit),
+            Stance::AtMark => of_mark(s, kind),
+            Stance::AtEnd => of_none(s, kind),
+            Stance::Clear => of_none(s, kind),
+            Stance::Next(_) => of_none(s, kind),
+        }
+    }
+}

@@ -1,0 +1,4 @@
+pub mod Places
+pub mod Stands
+pub mod Counts
+pub mod Fit
