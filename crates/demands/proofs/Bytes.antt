@@ -1,0 +1,188 @@
+-- Demand three for the bytes: a robot that reads nothing but the texts which requests wrote obeys every line, and every mark meets the pattern of its rank
+-- (`robot-meets`). It sees what the answers say (`robot-acts`), so all of demand three holds of what it sees (`demand-bytes`).
+-- Assumes nothing.
+use mathlib.Core.Path.{_≡_, refl, sym, ap, subst, _∙_}
+use mathlib.Core.Bool.{true}
+use mathlib.Core.List.{List, [], _∷_, _++_}
+use mathlib.Core.Option.{Option, none, some}
+use Prim.Native.Nat.{ℕ, suc, _≤_}
+use native.Mathlib.Nat.{zero-add}
+use native.Mathlib.Omega.{arith}
+use lib.ListN.{length, drop, length-append, length-drop}
+use lib.Seq.{drop-append-seam}
+use Rattle.listing.specs.Count.{count}
+use Rattle.listing.specs.Ends.{home}
+use Rattle.listing.specs.Limits.{mostPorts, largest64}
+use Rattle.listing.specs.Pattern.{Permutation}
+use Rattle.listing.proofs.Limits.{count-20}
+use Rattle.words.specs.Told.{accepted}
+use Rattle.words.specs.declared.Line.{Line}
+use Rattle.checks.proofs.Accepted.{Panel, panel-accepted}
+use Rattle.lines.specs.Format.{lineText}
+use Rattle.lines.proofs.Inverse.{read-written, campaign-proper}
+use Rattle.panel.specs.Calls as panel
+use Rattle.panel.specs.Calls.{carryOf, carryBytes}
+use Rattle.panel.proofs.Accepted.{carry-accepted}
+use Rattle.promise.specs.Plan.{Leg}
+use Rattle.promise.specs.Campaign.{Setting, request, report, Answer, movement, mark, theEnd, taken, refusal, first}
+use Rattle.promise.specs.Campaign as model
+use Rattle.promise.specs.Bench.{Act, moves, inFront, acts}
+use Rattle.promise.specs.Demand.{Demanded, FullCircuit}
+use Rattle.promise.specs.Derangements.{derangements}
+use Rattle.promise.proofs.Marks.{closed-so}
+use Rattle.promise.proofs.Steps.{Does, closes, errs, refuses}
+use Rattle.plans.specs.Grammar.{Planned}
+use Rattle.plans.specs.Calls.{readPlanOf}
+use Rattle.fitness.specs.State.{momentOf}
+use Rattle.fitness.specs.declared.State.{State}
+use Rattle.campaign.specs.Calls.{answerOf, leftOf, bytesOf, begunOf}
+use Rattle.demands.specs.Code.{campaignOf, Called, asks, tells, turnsOf, leftAfter}
+use Rattle.demands.specs.Robot.{lineOf, seen, obeyed, panelAfter, Obeys, Asked, RobotMeets, lineActs, seenActs, askedActs, robotActs}
+use Rattle.demands.proofs.Begun.{plan-fits}
+use Rattle.demands.proofs.Kept.{answer-on}
+use Rattle.demands.proofs.Three.{begun-moment, demand-left, all-met}
+use Rattle.demands.proofs.Shown.{order-there, textOf, text-by, Shows, Shown, shows, room-enough}
+use Rattle.demands.proofs.Reached.{Reached, reached-first, does-there, reached-left}
+
+-- ---- one line at the front of a buffer
+
+module _ (n : ℕ) (few : 2 ≤ n) (many : n ≤ mostPorts) where
+  module _ (l : Line) (buf q q' : List ℕ) (room : length (lineText l) ≤ length buf) (P : Permutation n q) (S : Shows n l q q') where
+    -- the bytes that are left
+    abbrev bytes : List ℕ
+    bytes = lineText l ++ drop (length (lineText l)) buf
+
+    -- they read as the line
+    reads : seen bytes ≡ accepted (l, length (lineText l))
+    reads =
+        read-written largest64 mostPorts l (campaign-proper mostPorts largest64 (count mostPorts) (omega arith) (omega (arith, count-20)) l (S .ours)) []
+        (drop (length (lineText l)) buf)
+        ∙ ap (λ k. accepted (l, k)) (zero-add (length (lineText l)))
+
+    -- which the panel takes
+    carried : (accepted tt ≡ carryOf mostPorts l q) × (panel.after l q ≡ carryBytes mostPorts l q)
+    carried =
+        let long : length q ≡ n = P .long in
+        let is : Panel mostPorts q = record { low = omega arith; high = omega arith; is = rw long P } in
+        carry-accepted mostPorts q (panel-accepted mostPorts q is) l l refl (rw long (S .fits))
+
+    obeys : Obeys n l buf bytes q
+    obeys = record {
+      reads = reads;
+      later = drop-append-seam (lineText l) (drop (length (lineText l)) buf);
+      long = omega (arith, length-append (lineText l) (drop (length (lineText l)) buf), length-drop (length (lineText l)) buf);
+      takes = sym (carried .0);
+      meets = S .meets;
+    }
+
+    -- and the robot's panel is then the one that the line leads to
+    led : obeyed (seen bytes) q ≡ q'
+    led = rw reads (let left : carryBytes mostPorts l q ≡ q' = sym (carried .1) ∙ S .leads in left)
+
+  -- the same with or without a line
+  asked-so : (o : Option Line) (buf q q' : List ℕ) → length (textOf o) ≤ length buf → Permutation n q → Shown n o q q'
+      → let b = textOf o ++ drop (length (textOf o)) buf in Asked n o buf b q × (panelAfter o b q ≡ q')
+  asked-so none buf q q' room P S = (refl, S)
+  asked-so (some l) buf q q' room P S = (obeys l buf q q' room P S, led l buf q q' room P S)
+
+-- ---- what the robot sees
+
+-- the act of a line, in front of others
+lineFront : Option Line → List Act → List Act
+lineFront none xs = xs
+lineFront (some l) xs = lineActs l xs
+
+-- it sees the answer's line
+seen-line : (n : ℕ) (o : Option Line) (buf bytes q : List ℕ) (xs : List Act) → Asked n o buf bytes q → askedActs o bytes xs ≡ lineFront o xs
+unfolding lineFront
+seen-line n none buf bytes q xs h = refl
+seen-line n (some l) buf bytes q xs h = ap (λ r. seenActs r xs) (h .reads)
+
+-- which is what happens on the bench
+line-front : (room : ℕ) (a : Answer) (xs : List Act) → lineFront (lineOf a) xs ≡ inFront (request room) a xs
+unfolding lineFront
+line-front room (movement o) xs = ap (λ x. moves x ∷ xs) (order-there o)
+line-front room (mark k r) xs = refl
+line-front room (theEnd k) xs = refl
+line-front room taken xs = refl
+line-front room (refusal k) xs = refl
+
+-- a report leaves the panel
+report-leaves : {C : Setting} {m m' : model.State} {kind : ℕ} {a : Answer} → Does C m (report kind) a m' → m .panel ≡ m' .panel
+report-leaves (closes st cl x) = sym (closed-so x .panel)
+report-leaves (errs st lt) = refl
+report-leaves (refuses k n) = refl
+
+-- ---- any calls on an accepted plan
+
+module _ (t : List ℕ) (p : Planned) (e : readPlanOf t ≡ accepted p) where
+  abbrev C : Setting
+  C = campaignOf p
+
+  module _ (s : State) (R : Reached p s) (buf : List ℕ) where
+    -- the answer to the request
+    a : Answer
+    a = answerOf (request (length buf)) s
+
+    -- the line that is given has room
+    room-there : (o : Option Line) → lineOf a ≡ o → length (textOf o) ≤ length buf
+    unfolding a
+    room-there none h = omega arith
+    room-there (some l) h =
+        room-enough C (momentOf s) (R .fit) (length buf) l refl (ap lineOf (sym (answer-on C s (R .kept) (R .setting) (request (length buf)))) ∙ h)
+
+    -- so the request is obeyed, and the robot's panel stays that of the state
+    obeyed-there : Asked (p .ports) (lineOf a) buf (bytesOf s buf) (momentOf s .panel)
+        × (panelAfter (lineOf a) (bytesOf s buf) (momentOf s .panel) ≡ momentOf (leftOf (request (length buf)) s) .panel)
+    unfolding a bytesOf
+    obeyed-there =
+        let f = plan-fits t p e in
+        let d = does-there t p e s R (request (length buf)) in
+        rw (text-by (answerOf (request (length buf)) s))
+        (asked-so (p .ports) (f .fewPorts) (f .manyPorts) (lineOf a) buf (momentOf s .panel) (momentOf (leftOf (request (length buf)) s) .panel)
+        (room-there (lineOf a) refl) (R .permutation) (shows t p e (R .fit) d))
+
+  -- of every state that calls leave
+  meets-from : (cs : List Called) (s : State) → Reached p s → RobotMeets (p .ports) (momentOf s .panel) cs s
+  unfolding RobotMeets a
+  meets-from [] s R = tt
+  meets-from (asks buf ∷ cs) s R =
+      let o = obeyed-there s R buf in
+      let later = meets-from cs (leftOf (request (length buf)) s) (reached-left t p e s R (request (length buf))) in
+      (o .0, subst (λ q. RobotMeets (p .ports) q cs (leftOf (request (length buf)) s)) (sym (o .1)) later)
+  meets-from (tells kind ∷ cs) s R =
+      subst (λ q. RobotMeets (p .ports) q cs (leftOf (report kind) s)) (sym (report-leaves (does-there t p e s R (report kind))))
+      (meets-from cs (leftOf (report kind) s) (reached-left t p e s R (report kind)))
+
+  -- and so it sees what happens on the bench
+  sees-from : (cs : List Called) (s : State) → Reached p s → robotActs cs s ≡ acts (turnsOf cs s)
+  unfolding robotActs acts turnsOf a
+  sees-from [] s R = refl
+  sees-from (asks buf ∷ cs) s R =
+      let c = request (length buf) in
+      let xs = robotActs cs (leftOf c s) in
+      seen-line (p .ports) (lineOf (answerOf c s)) buf (bytesOf s buf) (momentOf s .panel) xs (obeyed-there s R buf .0)
+      ∙ line-front (length buf) (answerOf c s) xs
+      ∙ ap (inFront c (answerOf c s)) (sees-from cs (leftOf c s) (reached-left t p e s R c))
+  sees-from (tells kind ∷ cs) s R =
+      let c = report kind in ap (inFront c (answerOf c s)) (sees-from cs (leftOf c s) (reached-left t p e s R c))
+
+  module _ (cs : List Called) where
+    -- a robot that starts at home and reads nothing but the bytes obeys every line, and meets every mark's pattern
+    pub robot-meets : RobotMeets (p .ports) (home (p .ports)) cs (begunOf t)
+    unfolding first derangements
+    robot-meets = subst (λ m. RobotMeets (p .ports) (m .panel) cs (begunOf t)) (begun-moment t p e) (meets-from cs (begunOf t) (reached-first t p e))
+
+    -- it sees exactly the orders and marks of the answers
+    pub robot-acts : robotActs cs (begunOf t) ≡ acts (turnsOf cs (begunOf t))
+    robot-acts = sees-from cs (begunOf t) (reached-first t p e)
+
+    -- so demand three holds of what it sees
+    pub demand-bytes : Demanded C (turnsOf cs (begunOf t)) (robotActs cs (begunOf t)) (momentOf (leftAfter cs (begunOf t)))
+    demand-bytes =
+        subst (λ xs. Demanded C (turnsOf cs (begunOf t)) xs (momentOf (leftAfter cs (begunOf t)))) (sym robot-acts) (demand-left t p e cs)
+
+    -- and its last clause: the panels that it carried to the marks of one full circuit are all derangements, each once
+    pub all-met-bytes : (l : Leg) → p .legs ≡ l ∷ [] → suc (l .run) ≡ count (p .ports) → leftAfter cs (begunOf t) .ended ≡ true
+        → FullCircuit (derangements (p .ports)) (robotActs cs (begunOf t))
+    all-met-bytes l one full ended = subst (FullCircuit (derangements (p .ports))) (sym robot-acts) (all-met t p e cs l one full ended)

@@ -1,0 +1,17 @@
+-- The theorems: the three demands, demand three for the bytes, then what the paper says of refusals, of the end and of the longest line, and that one answer
+-- meets each contract.
+pub mod One
+pub mod Two
+pub mod Three
+pub mod Bytes
+pub mod Refusals
+pub mod Ends
+pub mod Longest
+pub mod Only
+-- What they rest on.
+pub mod Begun
+pub mod Kept
+pub mod Shown
+pub mod Reached
+pub mod Numbers
+pub mod PlanNumbers

@@ -1,0 +1,203 @@
+-- Every mark of an accepted plan is handed out by some calls (`every-mark-given`). So 'the longest that a campaign writes is 45 bytes' is attained: on the
+-- longest plan a request writes 45 bytes, and every smaller buffer is refused there with 2 (`needs-45`).
+-- Assumes nothing.
+use mathlib.Core.Path.{_≡_, refl, sym, ap, subst, _∙_}
+use mathlib.Core.Logic.{_≢_}
+use mathlib.Core.Bool.{Bool, true, false, not, cond, _&&_, true≢false}
+use mathlib.Core.List.{List, [], _∷_, _++_}
+use Prim.Native.Nat.{ℕ, zero, suc, _+_, _≤_, _<_}
+use native.Mathlib.Nat.{zero-add}
+use native.Mathlib.Omega.{arith}
+use lib.Dec.{leb, ltb}
+use lib.ListN.{length, getD, replicate, length-append, length-replicate}
+use Rattle.listing.specs.Limits.{mostLegs}
+use Rattle.listing.proofs.Limits.{count-20}
+use Rattle.listing.proofs.Numbers.{either, test, below?}
+use Rattle.words.specs.Told.{accepted}
+use Rattle.words.specs.declared.Line.the-variants.{Mark}
+use Rattle.texts.specs.Parts.{comma}
+use Rattle.decimals.specs.Decimal.{digitsOf}
+use Rattle.decimals.proofs.Lengths.{digits-at-most, digits-above}
+use Rattle.lines.specs.Format.{marking, key, listed, keyText, unended, lineText}
+use Rattle.lines.proofs.Inverse.{text-length}
+use Rattle.promise.specs.Plan.{legAt, rankAt, ranks, number}
+use Rattle.promise.specs.Campaign.{Setting, request, report, wordOf, isError, isClosing, Answer, movement, mark, theEnd, taken, refusal, fit, offer, answer}
+use Rattle.promise.specs.Campaign as model
+use Rattle.promise.specs.Bench.{Act, inFront, acts, isMark, fresh, marksMet, numbered, planned}
+use Rattle.promise.specs.Fitness.{Fit, markStands, noRoom}
+use Rattle.promise.specs.Progress.{callsToEnd}
+use Rattle.promise.proofs.Legs.{number-below, length-ranks, ranks-at}
+use Rattle.promise.proofs.Marks.{length-numbered}
+use Rattle.promise.proofs.Refusals.{refused-so, served}
+use Rattle.plans.specs.Grammar.{Planned, Wide, planText}
+use Rattle.plans.specs.Calls.{device, readPlanOf}
+use Rattle.plans.proofs.Plans.{fits-accepted}
+use Rattle.plans.proofs.Longest.{longestLeg, longest, longest-fits}
+use Rattle.fitness.specs.State.{answerText, width, settingOf, momentOf}
+use Rattle.fitness.specs.Fitness.{placesFit}
+use Rattle.fitness.specs.declared.State.{State}
+use Rattle.campaign.specs.Calls.{answerOf, leftOf, begunOf}
+use Rattle.demands.specs.Code.{campaignOf, Called, asks, tells, callOf, turnsOf, leftAfter, promptCalls}
+use Rattle.demands.proofs.Kept.{answer-on}
+use Rattle.demands.proofs.Three.{demand-left}
+use Rattle.demands.proofs.Reached.{reached-after}
+use Rattle.demands.proofs.Ends.{promptly-ends}
+
+-- ---- marks that were met were handed out
+
+-- after some calls from state s a request is answered with the mark x
+pub record Given (s : State) (x : ℕ × ℕ) : Type 0 where
+  pub calls : List Called
+  pub buffer : List ℕ
+  pub is : answerOf (request (length buffer)) (leftAfter calls s) ≡ mark (x .0) (x .1)
+
+-- from the state that a call left, so from the state before
+given-later : (c : Called) (s : State) (x : ℕ × ℕ) → Given (leftOf (callOf c) s) x → Given s x
+unfolding leftAfter
+given-later c s x g = record { calls = c ∷ g .calls; buffer = g .buffer; is = g .is }
+
+-- a report is not answered with a mark
+no-mark-heard : (kind : ℕ) (s : State) (k r : ℕ) → answerOf (report kind) s ≢ mark k r
+unfolding answerOf answer
+no-mark-heard kind s k r =
+    by (placesFit s) (not (fit (settingOf s) (momentOf s))) (ltb 2 kind) (not (s .standing)) (isError (wordOf kind) && leb (settingOf s .limit) (s .errors))
+  where
+    by : (a b c d e : Bool)
+        → cond a (cond b (refusal 15) (cond c (refusal 14) (cond d (refusal 12) (cond e (refusal 16) taken)))) (refusal 15) ≢ mark k r
+    by false b c d e x = true≢false (cc)
+    by true true c d e x = true≢false (cc)
+    by true false true d e x = true≢false (cc)
+    by true false false true e x = true≢false (cc)
+    by true false false false true x = true≢false (cc)
+    by true false false false false x = true≢false (cc)
+
+-- so the call that was answered with one is a request
+given-here : (c : Called) (s : State) (k r : ℕ) → answerOf (callOf c) s ≡ mark k r → Given s (k, r)
+unfolding leftAfter
+given-here (asks buf) s k r e = record { calls = []; buffer = buf; is = e }
+given-here (tells kind) s k r e = absurd (no-mark-heard kind s k r e)
+
+-- every mark among xs, repeats struck out, was handed out from s
+abbrev AllGiven : State → List Act → Type 0
+AllGiven s xs = (again : Bool) (m : ℕ × ℕ) (i : ℕ) → i < length (fresh again m xs) → Given s (getD (fresh again m xs) i (0, 0))
+
+-- so with one call more
+all-given : (c : Called) (s : State) (a : Answer) (xs : List Act) → answerOf (callOf c) s ≡ a → AllGiven (leftOf (callOf c) s) xs
+    → AllGiven s (inFront (callOf c) a xs)
+unfolding fresh
+all-given c s (movement o) xs e h again m i l = given-later c s _ (h again m i l)
+all-given c s (mark k r) xs e h again m i l = by (again && isMark m k r) i l
+  where
+    by : (b : Bool) (i : ℕ) → i < length (cond b (fresh false (k, r) xs) ((k, r) ∷ fresh false (k, r) xs))
+        → Given s (getD (cond b (fresh false (k, r) xs) ((k, r) ∷ fresh false (k, r) xs)) i (0, 0))
+    by true i l = given-later c s _ (h false (k, r) i l)
+    by false zero l = given-here c s k r e
+    by false (suc i) l = given-later c s _ (h false (k, r) i (omega arith))
+all-given c s (theEnd k) xs e h again m i l = given-later c s _ (h again m i l)
+all-given (asks buf) s taken xs e h again m i l = given-later (asks buf) s _ (h again m i l)
+all-given (tells kind) s taken xs e h again m i l = given-later (tells kind) s _ (h (not (isClosing (wordOf kind))) m i l)
+all-given c s (refusal k) xs e h again m i l = given-later c s _ (h again m i l)
+
+given-so : (cs : List Called) (s : State) → AllGiven s (acts (turnsOf cs s))
+unfolding turnsOf acts fresh
+given-so [] s = λ again m i l. absurd (omega arith)
+given-so (c ∷ cs) s = all-given c s (answerOf (callOf c) s) (acts (turnsOf cs (leftOf (callOf c) s))) refl (given-so cs (leftOf (callOf c) s))
+
+-- ---- every mark of the plan
+
+-- the numbers count on
+numbered-at : (k : ℕ) (rs : List ℕ) (i : ℕ) → i < length rs → getD (numbered k rs) i (0, 0) ≡ (k + i, getD rs i 0)
+unfolding numbered
+numbered-at k [] i h = absurd (omega arith)
+numbered-at k (r ∷ rs) zero h = ap (λ j. (j, r)) (omega arith)
+numbered-at k (r ∷ rs) (suc i) h = numbered-at (suc k) rs i (omega arith) ∙ ap (λ j. (j, getD rs i 0)) (omega arith)
+
+module _ (t : List ℕ) (p : Planned) (e : readPlanOf t ≡ accepted p) where
+  abbrev C : Setting
+  C = campaignOf p
+
+  -- the mark at each step of each leg of an accepted plan is what a request gives after some calls
+  pub every-mark-given : (i k : ℕ) → i < length (p .legs) → k ≤ legAt (p .legs) i .run
+      → Given (begunOf t) (number (p .legs) i k, rankAt (C .family) (legAt (p .legs) i) k)
+  every-mark-given i k h l =
+      let zeros : List ℕ = replicate 45 0 in
+      let cs = promptCalls (callsToEnd C) zeros (begunOf t) in
+      let all : marksMet (acts (turnsOf cs (begunOf t))) ≡ planned C =
+      demand-left t p e cs .marksAllAtEnd (promptly-ends t p e zeros (omega (arith, length-replicate {A = ℕ} 45 0))) in
+      let rs = ranks (C .family) (p .legs) in
+      let n = number (p .legs) i k in
+      let below : n < length rs = omega (arith, number-below (p .legs) i k h l, length-ranks (C .family) (p .legs)) in
+      let there : getD (marksMet (acts (turnsOf cs (begunOf t)))) n (0, 0) ≡ (n, rankAt (C .family) (legAt (p .legs) i) k) =
+      ap (λ xs. getD xs n (0, 0)) all ∙ numbered-at 0 rs n below ∙ ap (λ j. (j, getD rs n 0)) (zero-add n)
+      ∙ ap (λ r. (n, r)) (ranks-at (C .family) (p .legs) i k h l) in
+      subst (Given (begunOf t)) there
+      (given-so cs (begunOf t) false (0, 0) n (omega (arith, ap length all, length-numbered 0 rs)))
+
+-- ---- 45 bytes
+
+-- the numbers of the device are wide enough for its ports, legs and ranks
+wide : Wide device
+wide = record { ports = omega arith; legs = omega arith; ranks = omega (arith, count-20) }
+
+-- the text of the longest plan is accepted
+longest-accepted : readPlanOf (planText longest) ≡ accepted longest
+longest-accepted = fits-accepted device 1 longest wide longest-fits
+
+-- its last leg's first mark
+last-leg : number (longest .legs) 15 0 ≡ 13425219467893531815
+unfolding number
+last-leg = refl
+
+-- it has 45 bytes
+last-45 : length (lineText (Mark 13425219467893531815 895014631192902120)) ≡ 45
+unfolding unended keyText listed
+last-45 =
+    let a = digitsOf 13425219467893531815 in
+    let b = digitsOf 895014631192902120 in
+    omega (
+      arith,
+      text-length (Mark 13425219467893531815 895014631192902120),
+      length-append (key marking) (a ++ (comma ∷ b)),
+      length-append a (comma ∷ b),
+      digits-at-most 19 13425219467893531815 (omega arith),
+      digits-above 19 13425219467893531815 (omega arith),
+      digits-at-most 17 895014631192902120 (omega arith),
+      digits-above 17 895014631192902120 (omega arith),
+    )
+
+-- after some calls on the plan of a text the next line has n bytes: a buffer of n is enough, and none of fewer
+pub record Needs (t : List ℕ) (n : ℕ) : Type 0 where
+  pub calls : List Called
+  pub enough : (room : ℕ) → n ≤ room → length (answerText (answerOf (request room) (leftAfter calls (begunOf t)))) ≡ n
+  pub fewer : (room : ℕ) → room < n → answerOf (request room) (leftAfter calls (begunOf t)) ≡ refusal 2
+
+-- where a request gave a mark, the mark is what is offered
+module _ (D : Setting) (m : model.State) (f : Fit D m) (room k r : ℕ) (e : answer D (request room) m ≡ mark k r) where
+  none-stands : m .standing ≡ false
+  none-stands = either (test (m .standing)) (λ st. absurd (true≢false (cc (refused-so D m (markStands {room = room} f st))))) (λ st. st)
+
+  offered : offer D m ≡ mark k r
+  offered =
+      either (below? room (D .width (offer D m)))
+      (λ less. absurd (true≢false (cc (refused-so D m (noRoom {room = room} f none-stands less)))))
+      (λ enough. sym (served D m room f none-stands enough) ∙ e)
+
+-- 'The longest that a campaign writes is 45 bytes': the longest plan comes to a line that needs them all
+pub needs-45 : Needs (planText longest) 45
+needs-45 =
+    let t = planText longest in
+    let D = campaignOf longest in
+    let g = every-mark-given t longest longest-accepted 15 0 (omega (arith, length-replicate mostLegs longestLeg)) (omega arith) in
+    let s = leftAfter (g .calls) (begunOf t) in
+    let R = reached-after t longest longest-accepted (g .calls) in
+    let m = momentOf s in
+    let said : answer D (request (length (g .buffer))) m ≡ mark 13425219467893531815 895014631192902120 =
+    sym (answer-on D s (R .kept) (R .setting) (request (length (g .buffer)))) ∙ g .is ∙ ap (λ k. mark k 895014631192902120) last-leg in
+    let st = none-stands D m (R .fit) (length (g .buffer)) _ _ said in
+    let next = offered D m (R .fit) (length (g .buffer)) _ _ said in
+    let wide : width (offer D m) ≡ 45 = ap width next ∙ last-45 in
+    record {
+      calls = g .calls;
+      enough = λ room h. ap width (answer-on D s (R .kept) (R .setting) (request room) ∙ served D m room (R .fit) st (omega arith)) ∙ wide;
+      fewer = λ room h. answer-on D s (R .kept) (R .setting) (request room) ∙ refused-so D m (noRoom (R .fit) st (omega arith));
+    }

@@ -1,0 +1,47 @@
+-- Which numbers a call can be refused with, by how its definition is built: calls that go on, tests, sizes.
+-- Assumes nothing.
+use mathlib.Core.Path.{ap, subst}
+use mathlib.Core.Bool.{Bool, true, false, cond, true≢false}
+use mathlib.Core.List.{List}
+use Prim.Native.Nat.{ℕ}
+use lib.Dec.{leb}
+use Rattle.words.specs.Told.{Told, Spot, accepted, refused, then, leaves}
+use Rattle.checks.specs.Calls.{sized}
+use Rattle.promise.specs.Campaign.{Answer, refusal}
+use Rattle.demands.specs.One.{OneOf, Refuses, Keeps, RefusesAs}
+
+module _ (ns : List ℕ) where
+  -- what is accepted is not refused
+  pub from-accepted : {A : Type 0} (a : A) → Refuses ns (accepted a)
+  from-accepted a k s e = absurd (true≢false (cc))
+
+  pub from-refused : {A : Type 0} (i : ℕ) (r : Spot) → OneOf ns i → Refuses {A = A} ns (refused i r)
+  from-refused i r h k s e = subst (OneOf ns) (cc) h
+
+  -- a call that goes on
+  pub from-then : {A B : Type 0} (t : Told A) (f : A → Told B) → Refuses ns t → ((a : A) → Refuses ns (f a)) → Refuses ns (then t f)
+  from-then (accepted a) f h g = g a
+  from-then (refused i r) f h g = λ k s e. h k s (cc)
+
+  -- a test
+  pub from-cond : {A : Type 0} (b : Bool) (t u : Told A) → Refuses ns t → Refuses ns u → Refuses ns (cond b t u)
+  from-cond true t u h g = h
+  from-cond false t u h g = g
+
+  -- 2 to `most` ports
+  pub from-sized : {A : Type 0} (most n : ℕ) (t : Told A) → OneOf ns 1 → Refuses ns t → Refuses ns (sized most n t)
+  unfolding sized
+  from-sized most n t one h =
+      from-cond (leb 2 n) _ _ (from-cond (leb n most) t _ h (from-refused 1 _ one)) (from-refused 1 _ one)
+
+  -- a test of the campaign's
+  pub answer-cond : (b : Bool) (x y : Answer) → RefusesAs ns x → RefusesAs ns y → RefusesAs ns (cond b x y)
+  answer-cond true x y h g = h
+  answer-cond false x y h g = g
+
+  pub answer-refusal : (i : ℕ) → OneOf ns i → RefusesAs ns (refusal i)
+  answer-refusal i h k e = subst (OneOf ns) (cc) h
+
+-- bytes that are left only if the call is accepted
+pub kept : {A : Type 0} (t : Told A) (made found : List ℕ) → Keeps t (leaves t made found) found
+kept t made found k s e = ap (λ x. leaves x made found) e

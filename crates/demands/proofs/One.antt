@@ -1,0 +1,213 @@
+-- Demand one, of the definitions that the public calls meet: each is accepted or refused with one of the paper's numbers, and a refused call leaves lent bytes
+-- and the campaign's state as they were (`demand-one`).
+-- Assumes nothing.
+use mathlib.Core.Path.{_≡_, refl, sym, ap, _∙_}
+use mathlib.Core.Logic.{inl, inr}
+use mathlib.Core.Bool.{Bool, true, false, not, _&&_, true≢false}
+use mathlib.Core.List.{List, [], _∷_, _++_}
+use mathlib.Core.Option.{Option, none, some}
+use Prim.Native.Nat.{ℕ}
+use lib.Dec.{leb, ltb}
+use lib.ListN.{length, drop, take-append-drop}
+use Rattle.listing.specs.Orders.{Order}
+use Rattle.listing.specs.Limits.{mostPorts, largest64}
+use Rattle.listing.specs.Count.{count}
+use Rattle.listing.proofs.Numbers.{either}
+use Rattle.words.specs.Told.{Told, nowhere, accepted}
+use Rattle.words.specs.declared.Line.{Line}
+use Rattle.checks.specs.Faults.{Fault, sound, outside, repeated, ownJack, faultOf, faultTold}
+use Rattle.checks.specs.Calls.{checkAs, checkOf}
+use Rattle.patterns.specs.Calls.{ranked, countOf, rankOf, unrankOf, unrankBytes, besideOf, besideBytes, stepOf}
+use Rattle.panel.specs.Calls.{onPanel, portOf, jackOf, carryOf, carryBytes}
+use Rattle.panel.proofs.Accepted.{panel-refused}
+use Rattle.panel.proofs.Refusals.{refusals}
+use Rattle.texts.specs.Parts.{newline, cut, after}
+use Rattle.lines.specs.Format.{Kind, swapping, turning, marking, ending, key, commas, lineOf, lineText}
+use Rattle.lines.specs.Calls.{roomOf, writeOf, writeBytes}
+use Rattle.words.specs.Shape.{lineFits}
+use Rattle.lines.specs.Reading.{fitting, orRefused, numbersIn, numbersTold, keyed, lineIn, readOf}
+use Rattle.plans.specs.Calls.{device}
+use Rattle.promise.specs.Campaign.{Setting, refusal, Call, request, report, wordOf, isError, todo, next, offer, answer}
+use Rattle.promise.specs.Campaign as model
+use Rattle.fitness.specs.State.{answerText, settingOf, momentOf, atMoment}
+use Rattle.fitness.specs.Fitness.{placesFit}
+use Rattle.fitness.specs.declared.State.{State}
+use Rattle.campaign.specs.Calls.{answerOf, leftOf, bytesOf}
+use Rattle.demands.specs.One.{OneOf, Refuses, RefusesAs, DemandOne}
+use Rattle.demands.proofs.PlanNumbers.{plan-numbers}
+use Rattle.demands.proofs.Numbers.{from-accepted, from-refused, from-then, from-cond, from-sized, answer-cond, answer-refusal, kept}
+
+-- ---- patterns
+
+abbrev ofPattern : List ℕ
+ofPattern = 1 ∷ 3 ∷ 4 ∷ 5 ∷ []
+
+fault-numbers : (f : Fault) → Refuses ofPattern (faultTold f (tt {0}))
+fault-numbers sound = from-accepted ofPattern tt
+fault-numbers (outside j) = from-refused ofPattern 3 _ (inr (inl refl))
+fault-numbers (repeated j k) = from-refused ofPattern 4 _ (inr (inr (inl refl)))
+fault-numbers (ownJack j) = from-refused ofPattern 5 _ (inr (inr (inr (inl refl))))
+
+check-numbers : (p : List ℕ) → Refuses ofPattern (checkOf mostPorts p)
+unfolding checkAs
+check-numbers p = from-sized ofPattern mostPorts (length p) _ (inl refl) (fault-numbers (faultOf true p))
+
+-- 1 and then 6
+ranked-numbers : {A : Type 0} (n r : ℕ) (a : A) → Refuses (1 ∷ 6 ∷ []) (ranked n r (accepted a))
+unfolding ranked
+ranked-numbers n r a = from-cond (1 ∷ 6 ∷ []) (ltb r (count n)) _ _ (from-accepted (1 ∷ 6 ∷ []) a) (from-refused (1 ∷ 6 ∷ []) 6 nowhere (inr (inl refl)))
+
+-- ---- the panel
+
+-- 1, 3 or 4, and 17 after them
+panel-numbers : {A : Type 0} (p : List ℕ) (fits : Bool) (a : A) → Refuses (1 ∷ 3 ∷ 4 ∷ 17 ∷ []) (onPanel mostPorts p fits a)
+panel-numbers p fits a k s e =
+    either (refusals mostPorts p fits a k s (sym e))
+    (λ h. either h inl (λ h. either h (λ x. inr (inl x)) (λ x. inr (inr (inl x)))))
+    (λ h. inr (inr (inr (inl (h .2)))))
+
+-- of the check alone there is no 17
+check-panel-numbers : (p : List ℕ) → Refuses (1 ∷ 3 ∷ 4 ∷ []) (checkAs false mostPorts p)
+check-panel-numbers p k s e =
+    either (refusals mostPorts p true (tt {0}) k s (panel-refused mostPorts p true (tt {0}) k s (sym e)))
+    (λ h. either h inl (λ h. either h (λ x. inr (inl x)) (λ x. inr (inr (inl x)))))
+    (λ h. absurd (true≢false (h .1)))
+
+-- ---- order text
+
+abbrev ofLine : List ℕ
+ofLine = 11 ∷ 7 ∷ 8 ∷ 17 ∷ []
+
+fitting-numbers : (ns : List ℕ) (l : Line) → OneOf ns 17 → Refuses ns (fitting mostPorts l)
+unfolding fitting
+fitting-numbers ns l h = from-cond ns (lineFits mostPorts l) _ _ (from-accepted ns l) (from-refused ns 17 nowhere h)
+
+there-numbers : {A : Type 0} (i : ℕ) (o : Option A) → OneOf ofLine i → Refuses ofLine (orRefused i o)
+there-numbers i none h = from-refused ofLine i nowhere h
+there-numbers i (some a) h = from-accepted ofLine a
+
+keyed-numbers : (k : Kind) (o : Option (List ℕ)) (other : Told Line) → Refuses ofLine other → Refuses ofLine (keyed largest64 mostPorts k o other)
+unfolding numbersTold
+keyed-numbers k none other h = h
+keyed-numbers k (some v) other h =
+    from-then ofLine _ _ (there-numbers 8 (numbersIn largest64 (commas k) v) (inr (inr (inl refl))))
+    (λ x. fitting-numbers ofLine (lineOf k x) (inr (inr (inr (inl refl)))))
+
+line-numbers : (t : List ℕ) → Refuses ofLine (lineIn largest64 mostPorts t)
+unfolding lineIn
+line-numbers t =
+    keyed-numbers swapping (after (key swapping) t) _
+    (keyed-numbers turning (after (key turning) t) _
+    (keyed-numbers marking (after (key marking) t) _
+    (keyed-numbers ending (after (key ending) t) _
+    (from-refused ofLine 7 nowhere (inr (inl refl))))))
+
+read-numbers : (t : List ℕ) (place : ℕ) → Refuses ofLine (readOf largest64 mostPorts t place)
+unfolding readOf
+read-numbers t place =
+    from-then ofLine _ _ (there-numbers 11 (cut newline (drop place t)) (inl refl))
+    (λ p. from-then ofLine _ _ (line-numbers (p .front)) (λ l. from-accepted ofLine _))
+
+write-numbers : (l : Line) (buf : List ℕ) → Refuses (17 ∷ 2 ∷ []) (writeOf mostPorts l buf)
+unfolding writeOf roomOf
+write-numbers l buf =
+    from-then (17 ∷ 2 ∷ []) _ _ (fitting-numbers (17 ∷ 2 ∷ []) l (inl refl))
+    (λ k. from-cond (17 ∷ 2 ∷ []) (leb (length (lineText k)) (length buf)) _ _ (from-accepted (17 ∷ 2 ∷ []) _)
+    (from-refused (17 ∷ 2 ∷ []) 2 nowhere (inr (inl refl))))
+
+-- ---- states and reports
+
+abbrev ofRequest : List ℕ
+ofRequest = 15 ∷ 13 ∷ 2 ∷ []
+
+abbrev ofReport : List ℕ
+ofReport = 15 ∷ 14 ∷ 12 ∷ 16 ∷ []
+
+-- what is offered is an order, a mark, the end, or 15
+offer-numbers : (C : Setting) (m : model.State) → RefusesAs ofRequest (offer C m)
+unfolding offer
+offer-numbers C m = answer-cond ofRequest (m .ended) _ _ (λ k e. absurd (true≢false (cc))) (by (todo C m))
+  where
+    by : (o : Option (List Order)) → RefusesAs ofRequest (next C m o)
+    by none = answer-refusal ofRequest 15 (inl refl)
+    by (some []) = λ k e. absurd (true≢false (cc))
+    by (some (o ∷ os)) = λ k e. absurd (true≢false (cc))
+
+request-numbers : (room : ℕ) (s : State) → RefusesAs ofRequest (answerOf (request room) s)
+unfolding answerOf answer
+request-numbers room s =
+    let C = settingOf s in
+    let m = momentOf s in
+    answer-cond ofRequest (placesFit s) _ _
+    (answer-cond ofRequest (not (model.fit C m)) _ _ (answer-refusal ofRequest 15 (inl refl))
+    (answer-cond ofRequest (m .standing) _ _ (answer-refusal ofRequest 13 (inr (inl refl)))
+    (answer-cond ofRequest (ltb room (C .width (offer C m))) _ _ (answer-refusal ofRequest 2 (inr (inr (inl refl)))) (offer-numbers C m))))
+    (answer-refusal ofRequest 15 (inl refl))
+
+report-numbers : (kind : ℕ) (s : State) → RefusesAs ofReport (answerOf (report kind) s)
+unfolding answerOf answer
+report-numbers kind s =
+    let C = settingOf s in
+    let m = momentOf s in
+    answer-cond ofReport (placesFit s) _ _
+    (answer-cond ofReport (not (model.fit C m)) _ _ (answer-refusal ofReport 15 (inl refl))
+    (answer-cond ofReport (ltb 2 kind) _ _ (answer-refusal ofReport 14 (inr (inl refl)))
+    (answer-cond ofReport (not (m .standing)) _ _ (answer-refusal ofReport 12 (inr (inr (inl refl))))
+    (answer-cond ofReport (isError (wordOf kind) && leb (C .limit) (m .errors)) _ _ (answer-refusal ofReport 16 (inr (inr (inr (inl refl)))))
+    (λ k e. absurd (true≢false (cc)))))))
+    (answer-refusal ofReport 15 (inl refl))
+
+-- a state at its own moment is that state
+own-moment : (s : State) → atMoment (momentOf s) s ≡ s
+own-moment s =
+    ap
+    (λ q. record {
+      plan = s .plan;
+      panel = q;
+      leg = s .leg;
+      step = s .step;
+      covered = s .covered;
+      opened = s .opened;
+      errors = s .errors;
+      standing = s .standing;
+      ended = s .ended;
+    })
+    (take-append-drop (s .plan .ports) (s .panel))
+
+-- a refused call leaves the state as it was, fit or not
+pub state-kept : (c : Call) (s : State) (k : ℕ) → answerOf c s ≡ refusal k → leftOf c s ≡ s
+unfolding leftOf model.after
+state-kept c s k e = ap (λ a. atMoment (model.after (settingOf s) c a (momentOf s)) s) e ∙ own-moment s
+
+-- and so the buffer
+pub buffer-kept : (s : State) (buf : List ℕ) (k : ℕ) → answerOf (request (length buf)) s ≡ refusal k → bytesOf s buf ≡ buf
+unfolding bytesOf
+buffer-kept s buf k e = ap (λ a. answerText a ++ drop (length (answerText a)) buf) e
+
+-- ---- demand one
+
+pub demand-one : DemandOne
+unfolding countOf rankOf unrankOf unrankBytes besideOf besideBytes stepOf portOf jackOf carryOf carryBytes writeBytes
+demand-one = record {
+  check = check-numbers;
+  checkPanel = check-panel-numbers;
+  count = λ n. from-sized (1 ∷ []) mostPorts n _ (inl refl) (from-accepted (1 ∷ []) _);
+  rank = λ p. from-then ofPattern _ _ (check-numbers p) (λ ok. from-accepted ofPattern _);
+  unrank = λ r out. from-sized (1 ∷ 6 ∷ []) mostPorts (length out) _ (inl refl) (ranked-numbers (length out) r tt);
+  unrankKeeps = λ r out. kept (unrankOf mostPorts r out) _ out;
+  beside = λ back p. from-then ofPattern _ _ (check-numbers p) (λ ok. from-accepted ofPattern _);
+  besideKeeps = λ back p. kept (besideOf mostPorts back p) _ p;
+  step = λ n r z. from-sized (1 ∷ 6 ∷ []) mostPorts n _ (inl refl) (ranked-numbers n r _);
+  portAt = λ p j. panel-numbers p _ _;
+  jackOfPort = λ p v. panel-numbers p _ _;
+  carry = λ l p. panel-numbers p _ _;
+  carryKeeps = λ l p. kept (carryOf mostPorts l p) _ p;
+  readPlan = plan-numbers device 1;
+  readLine = read-numbers;
+  writeLine = write-numbers;
+  writeKeeps = λ l buf. kept (writeOf mostPorts l buf) _ buf;
+  asked = request-numbers;
+  reported = report-numbers;
+  stateKeeps = state-kept;
+  bufferKeeps = buffer-kept;
+}

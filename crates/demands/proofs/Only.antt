@@ -1,0 +1,38 @@
+-- Nothing else meets a contract of a public call (`each-call-one`): the laws of the crates, in one place.
+-- Assumes nothing.
+use Rattle.checks.proofs.Only.{only-check}
+use Rattle.patterns.proofs.Only.{only-count, only-rank, only-unrank, only-beside, only-step}
+use Rattle.panel.proofs.Only.{only-port-at, only-jack-of, only-carry}
+use Rattle.decimals.proofs.Only.{only-read-number, only-read-signed, only-places, only-digits}
+use Rattle.texts.proofs.Only.{only-find, only-has-key}
+use Rattle.reading.proofs.Only.{only-read-line}
+use Rattle.writing.proofs.Only.{only-write-line}
+use Rattle.plans.proofs.Only.{only-read-plan}
+use Rattle.campaign.proofs.Only.{only-request, only-request-bytes, only-report, only-begin}
+use Rattle.demands.specs.Only.{EachCallOne}
+
+pub each-call-one : EachCallOne
+each-call-one = record {
+  check = only-check;
+  count = only-count;
+  rank = only-rank;
+  unrank = only-unrank;
+  beside = only-beside;
+  step = only-step;
+  portAt = only-port-at;
+  jackOfPort = only-jack-of;
+  carry = only-carry;
+  readNumber = only-read-number;
+  readSigned = only-read-signed;
+  places = only-places;
+  digits = only-digits;
+  find = only-find;
+  hasKey = only-has-key;
+  readLine = only-read-line;
+  writeLine = only-write-line;
+  readPlan = only-read-plan;
+  request = only-request;
+  requestBytes = only-request-bytes;
+  report = only-report;
+  begin = only-begin;
+}

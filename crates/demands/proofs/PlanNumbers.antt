@@ -1,0 +1,67 @@
+-- The numbers that a plan is refused with.
+-- Assumes nothing.
+use mathlib.Core.Path.{refl}
+use mathlib.Core.Logic.{inl, inr}
+use mathlib.Core.List.{List, [], _∷_}
+use mathlib.Core.Option.{Option, none, some}
+use Prim.Native.Nat.{ℕ, zero, suc}
+use Rattle.listing.specs.Count.{count}
+use Rattle.words.specs.Told.{atLine}
+use Rattle.texts.specs.Parts.{newline, cut, after}
+use Rattle.plans.specs.Grammar.{Limits}
+use Rattle.fields.specs.Field.{need, lineIn, between, Field, fieldIn}
+use Rattle.plans.specs.Reading.{portsField, legsField, startField, runField, legIn, legsIn, planIn}
+use Rattle.demands.specs.One.{OneOf, Refuses}
+use Rattle.demands.proofs.Numbers.{from-accepted, from-refused, from-then, from-cond}
+
+-- ---- plans: the numbers of its refusals
+
+-- a line's: 11, 7, 8, and the field's own
+field-numbers : (ns : List ℕ) {A : Type 0} (f : Field A) (line : ℕ) (t : List ℕ) → OneOf ns 11 → OneOf ns 7 → OneOf ns 8 → OneOf ns (f .refusal)
+    → Refuses ns (fieldIn f line t)
+unfolding fieldIn lineIn
+field-numbers ns f line t e v z h =
+    from-then ns _ _
+    (from-then ns _ _ (needed 11 e (cut newline t)) (λ p. from-then ns _ _ (needed 7 v (after (f .key) (p .front))) (λ w. from-accepted ns _)))
+    (λ p. from-then ns _ _ (needed 8 z (f .number (p .front)))
+    (λ a. from-cond ns (between (f .low) (f .below) (f .size a)) _ _ (from-accepted ns _) (from-refused ns (f .refusal) _ h)))
+  where
+    needed : {B : Type 0} (i : ℕ) → OneOf ns i → (o : Option B) → Refuses ns (need i line o)
+    needed i x none = from-refused ns i (atLine line) x
+    needed i x (some b) = from-accepted ns b
+
+-- the numbers of a plan, in the paper's order
+abbrev ns : List ℕ
+ns = 11 ∷ 7 ∷ 8 ∷ 1 ∷ 9 ∷ 6 ∷ 10 ∷ []
+
+eleven : OneOf ns 11
+eleven = inl refl
+
+seven : OneOf ns 7
+seven = inr (inl refl)
+
+eight : OneOf ns 8
+eight = inr (inr (inl refl))
+
+leg-numbers : (largest size line : ℕ) (t : List ℕ) → Refuses ns (legIn largest size line t)
+unfolding legIn
+leg-numbers largest size line t =
+    from-then ns _ _ (field-numbers ns (startField largest size) line t eleven seven eight (inr (inr (inr (inr (inr (inl refl)))))))
+    (λ s. from-then ns _ _ (field-numbers ns (runField largest size) (suc line) (s .rest) eleven seven eight (inr (inr (inr (inr (inr (inr (inl refl))))))))
+    (λ r. from-accepted ns _))
+
+legs-numbers : (largest size left line : ℕ) (t : List ℕ) → Refuses ns (legsIn largest size left line t)
+unfolding legsIn
+legs-numbers largest size zero line [] = from-accepted ns []
+legs-numbers largest size zero line (b ∷ t) = from-refused ns 11 (atLine line) eleven
+legs-numbers largest size (suc left) line t =
+    from-then ns _ _ (leg-numbers largest size line t)
+    (λ g. from-then ns _ _ (legs-numbers largest size left (suc (suc line)) (g .rest)) (λ ms. from-accepted ns _))
+
+-- a plan's: those of its lines, and 11 for a byte after the last
+pub plan-numbers : (most : Limits) (first : ℕ) (t : List ℕ) → Refuses (11 ∷ 7 ∷ 8 ∷ 1 ∷ 9 ∷ 6 ∷ 10 ∷ []) (planIn most first t)
+unfolding planIn
+plan-numbers most first t =
+    from-then ns _ _ (field-numbers ns (portsField most) first t eleven seven eight (inr (inr (inr (inl refl)))))
+    (λ p. from-then ns _ _ (field-numbers ns (legsField most) (suc first) (p .rest) eleven seven eight (inr (inr (inr (inr (inl refl))))))
+    (λ k. from-then ns _ _ (legs-numbers (most .largest) (count (p .value)) (k .value) (suc (suc first)) (k .rest)) (λ ls. from-accepted ns _)))

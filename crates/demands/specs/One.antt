@@ -1,0 +1,67 @@
+-- The customer's first demand as one record over the definitions that the public calls meet: 'Bad input gets the refusal number that the paper lists. Lent
+-- buffers and the campaign state are then as they were.' That every call ends properly on every input is what its own proof says: no call has a `requires`.
+-- Assumes nothing.
+use Prim.Native.Nat.{ℕ}
+use mathlib.Core.Path.{_≡_}
+use mathlib.Core.Logic.{_⊎_}
+use mathlib.Core.Bool.{Bool, false}
+use mathlib.Core.List.{List, [], _∷_}
+use lib.IntN.{ℤ}
+use lib.ListN.{length}
+use Rattle.listing.specs.Limits.{mostPorts, largest64}
+use Rattle.words.specs.Told.{Told, Spot, refused}
+use Rattle.words.specs.declared.Line.{Line}
+use Rattle.checks.specs.Calls.{checkAs, checkOf}
+use Rattle.patterns.specs.Calls.{countOf, rankOf, unrankOf, unrankBytes, besideOf, besideBytes, stepOf}
+use Rattle.panel.specs.Calls.{portOf, jackOf, carryOf, carryBytes}
+use Rattle.lines.specs.Calls.{writeOf, writeBytes}
+use Rattle.lines.specs.Reading.{readOf}
+use Rattle.plans.specs.Calls.{readPlanOf}
+use Rattle.promise.specs.Campaign.{Answer, refusal, Call, request, report}
+use Rattle.fitness.specs.declared.State.{State}
+use Rattle.campaign.specs.Calls.{answerOf, leftOf, bytesOf}
+
+-- k is one of these numbers
+abbrev pub OneOf : List ℕ → ℕ → Type 0
+OneOf [] k = ⊥
+OneOf (n ∷ ns) k = (k ≡ n) ⊎ OneOf ns k
+
+-- a call that tells this is accepted, or refused with one of these numbers
+abbrev pub Refuses : {A : Type 0} → List ℕ → Told A → Type 0
+Refuses ns t = (k : ℕ) (s : Spot) → t ≡ refused k s → OneOf ns k
+
+-- if it is refused, the bytes left are those found
+abbrev pub Keeps : {A : Type 0} → Told A → List ℕ → List ℕ → Type 0
+Keeps t left found = (k : ℕ) (s : Spot) → t ≡ refused k s → left ≡ found
+
+-- the same of the campaign's answers
+abbrev pub RefusesAs : List ℕ → Answer → Type 0
+RefusesAs ns a = (k : ℕ) → a ≡ refusal k → OneOf ns k
+
+-- the public calls, each with its numbers in the paper's order
+pub record DemandOne : Type 0 where
+  -- ---- patterns
+  pub check : (p : List ℕ) → Refuses (1 ∷ 3 ∷ 4 ∷ 5 ∷ []) (checkOf mostPorts p)
+  pub checkPanel : (p : List ℕ) → Refuses (1 ∷ 3 ∷ 4 ∷ []) (checkAs false mostPorts p)
+  pub count : (n : ℕ) → Refuses (1 ∷ []) (countOf mostPorts n)
+  pub rank : (p : List ℕ) → Refuses (1 ∷ 3 ∷ 4 ∷ 5 ∷ []) (rankOf mostPorts p)
+  pub unrank : (r : ℕ) (out : List ℕ) → Refuses (1 ∷ 6 ∷ []) (unrankOf mostPorts r out)
+  pub unrankKeeps : (r : ℕ) (out : List ℕ) → Keeps (unrankOf mostPorts r out) (unrankBytes mostPorts r out) out
+  pub beside : (back : Bool) (p : List ℕ) → Refuses (1 ∷ 3 ∷ 4 ∷ 5 ∷ []) (besideOf mostPorts back p)
+  pub besideKeeps : (back : Bool) (p : List ℕ) → Keeps (besideOf mostPorts back p) (besideBytes mostPorts back p) p
+  pub step : (n r : ℕ) (z : ℤ) → Refuses (1 ∷ 6 ∷ []) (stepOf mostPorts n r z)
+  -- ---- the panel
+  pub portAt : (p : List ℕ) (j : ℕ) → Refuses (1 ∷ 3 ∷ 4 ∷ 17 ∷ []) (portOf mostPorts p j)
+  pub jackOfPort : (p : List ℕ) (v : ℕ) → Refuses (1 ∷ 3 ∷ 4 ∷ 17 ∷ []) (jackOf mostPorts p v)
+  pub carry : (l : Line) (p : List ℕ) → Refuses (1 ∷ 3 ∷ 4 ∷ 17 ∷ []) (carryOf mostPorts l p)
+  pub carryKeeps : (l : Line) (p : List ℕ) → Keeps (carryOf mostPorts l p) (carryBytes mostPorts l p) p
+  -- ---- plan text and order text
+  pub readPlan : (t : List ℕ) → Refuses (11 ∷ 7 ∷ 8 ∷ 1 ∷ 9 ∷ 6 ∷ 10 ∷ []) (readPlanOf t)
+  pub readLine : (t : List ℕ) (place : ℕ) → Refuses (11 ∷ 7 ∷ 8 ∷ 17 ∷ []) (readOf largest64 mostPorts t place)
+  pub writeLine : (l : Line) (buf : List ℕ) → Refuses (17 ∷ 2 ∷ []) (writeOf mostPorts l buf)
+  pub writeKeeps : (l : Line) (buf : List ℕ) → Keeps (writeOf mostPorts l buf) (writeBytes mostPorts l buf) buf
+  -- ---- states and reports: 'For the campaign: 15 first, then 14, 12, 13, 16, last 2'
+  pub asked : (room : ℕ) (s : State) → RefusesAs (15 ∷ 13 ∷ 2 ∷ []) (answerOf (request room) s)
+  pub reported : (kind : ℕ) (s : State) → RefusesAs (15 ∷ 14 ∷ 12 ∷ 16 ∷ []) (answerOf (report kind) s)
+  pub stateKeeps : (c : Call) (s : State) (k : ℕ) → answerOf c s ≡ refusal k → leftOf c s ≡ s
+  pub bufferKeeps : (s : State) (buf : List ℕ) (k : ℕ) → answerOf (request (length buf)) s ≡ refusal k → bytesOf s buf ≡ buf

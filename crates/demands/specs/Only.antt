@@ -1,0 +1,72 @@
+-- 'Prove that nothing else would satisfy it': of each public call, that its contract is met by one answer, with one list of final bytes for each lent slice.
+-- Assumes nothing.
+use Prim.Native.Nat.{ℕ}
+use mathlib.Core.Path.{_≡_}
+use mathlib.Core.Bool.{Bool}
+use mathlib.Core.List.{List}
+use lib.IntN.{ℤ}
+use lib.ListN.{length}
+use Rattle.listing.specs.Limits.{mostPorts, mostLegs, largest64}
+use Rattle.words.specs.declared.Line.{Line}
+use Rattle.checks.specs.Calls.{checkAs}
+use Rattle.checks.specs.Answers.{checkedTold}
+use Rattle.patterns.specs.Calls.{countOf, rankOf, unrankOf, unrankBytes, besideOf, besideBytes, stepOf}
+use Rattle.patterns.specs.Answers.{countedTold, rankedTold, unrankedTold, movedTold, steppedTold}
+use Rattle.panel.specs.Calls.{portOf, jackOf, carryOf, carryBytes}
+use Rattle.panel.specs.Answers.{lookedTold, foundTold, carriedTold}
+use Rattle.decimals.specs.Decimal.{digitsOf, numberUpTo}
+use Rattle.decimals.specs.Signed.{signedUpTo}
+use Rattle.decimals.specs.Answers.{readIs, signedIs, TextOf}
+use Rattle.texts.specs.Parts.{firstOf, begins}
+use Rattle.texts.specs.Answers.{foundIs}
+use Rattle.lines.specs.Calls.{writeOf, writeBytes}
+use Rattle.lines.specs.Reading.{readOf}
+use Rattle.reading.specs.Answers.{readTold}
+use Rattle.writing.specs.Answers.{writtenTold}
+use Rattle.plans.specs.Calls.{readPlanOf}
+use Rattle.plans.specs.Answers.{Answers}
+use Rattle.promise.specs.Campaign as model
+use Rattle.promise.specs.Campaign.{Call}
+use Rattle.fitness.specs.declared.State.{State}
+use Rattle.campaign.specs.Calls.{bytesOf}
+use Rattle.campaign.specs.Answers.{RequestIs, ReportIs, BeginIs}
+
+-- one answer at most meets a contract
+abbrev pub One : {A : Type 0} → (A → Type 0) → Type 0
+One {A} Meets = (r s : A) → Meets r → Meets s → r ≡ s
+
+-- and one list of bytes with it: what the answer tells, and the bytes left
+abbrev pub OneWith : {A T : Type 0} → (A → T) → T → List ℕ → Type 0
+OneWith {A} told t left = (r s : A) (b c : List ℕ) → told r ≡ t → b ≡ left → told s ≡ t → c ≡ left → (r ≡ s) × (b ≡ c)
+
+-- the public calls, by crate
+pub record EachCallOne : Type 0 where
+  -- ---- checks
+  pub check : (pattern : Bool) (p : List ℕ) → One (λ r. checkedTold r ≡ checkAs pattern mostPorts p)
+  -- ---- patterns
+  pub count : (n : ℕ) → One (λ r. countedTold r ≡ countOf mostPorts n)
+  pub rank : (p : List ℕ) → One (λ r. rankedTold r ≡ rankOf mostPorts p)
+  pub unrank : (k : ℕ) (out : List ℕ) → OneWith unrankedTold (unrankOf mostPorts k out) (unrankBytes mostPorts k out)
+  pub beside : (back : Bool) (p : List ℕ) → OneWith movedTold (besideOf mostPorts back p) (besideBytes mostPorts back p)
+  pub step : (n k : ℕ) (z : ℤ) → One (λ r. steppedTold r ≡ stepOf mostPorts n k z)
+  -- ---- panel
+  pub portAt : (p : List ℕ) (j : ℕ) → One (λ r. lookedTold r ≡ portOf mostPorts p j)
+  pub jackOfPort : (p : List ℕ) (v : ℕ) → One (λ r. foundTold r ≡ jackOf mostPorts p v)
+  pub carry : (l : Line) (p : List ℕ) → OneWith carriedTold (carryOf mostPorts l p) (carryBytes mostPorts l p)
+  -- ---- numbers and texts
+  pub readNumber : (t : List ℕ) → One (λ r. readIs r ≡ numberUpTo largest64 t)
+  pub readSigned : (t : List ℕ) → One (λ r. signedIs r ≡ signedUpTo largest64 t)
+  pub places : (n : ℕ) → One (λ r. r ≡ length (digitsOf n))
+  pub digits : (n : ℕ) → One (TextOf n)
+  pub find : (b : ℕ) (t : List ℕ) → One (λ r. foundIs r ≡ firstOf b t)
+  pub hasKey : (key t : List ℕ) → One (λ r. r ≡ begins key t)
+  -- ---- order lines
+  pub readLine : (t : List ℕ) (place : ℕ) → One (λ r. readTold r ≡ readOf largest64 mostPorts t place)
+  pub writeLine : (l : Line) (buf : List ℕ) → OneWith writtenTold (writeOf mostPorts l buf) (writeBytes mostPorts l buf)
+  -- ---- plans
+  pub readPlan : (t : List ℕ) → One (Answers mostLegs (readPlanOf t))
+  -- ---- the campaign
+  pub request : (c : Call) (a : model.Answer) (s : State) → One (RequestIs c a s)
+  pub requestBytes : (s : State) (buf : List ℕ) → One (λ b. b ≡ bytesOf s buf)
+  pub report : (c : Call) (a : model.Answer) (s : State) → One (ReportIs c a s)
+  pub begin : (t : List ℕ) → One (BeginIs t)

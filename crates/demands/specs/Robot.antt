@@ -1,0 +1,101 @@
+-- A robot that knows nothing but bytes. After each request that was not refused it reads the text at the front of the buffer (as `read_line` does) and carries
+-- the line out on its panel (as `carry` does). 'Carry out the orders on a panel that starts at home. Every mark then meets the pattern of its rank.'
+-- Assumes nothing.
+use Prim.Native.Nat.{ℕ}
+use mathlib.Core.Path.{_≡_}
+use mathlib.Core.List.{List, [], _∷_}
+use mathlib.Core.Option.{Option, none, some}
+use lib.ListN.{length, drop}
+use Rattle.listing.specs.Limits.{mostPorts, largest64}
+use Rattle.listing.specs.Listing.{at}
+use Rattle.words.specs.Told.{Told, accepted, refused}
+use Rattle.words.specs.Meaning.{orderOf, orderFrom}
+use Rattle.words.specs.declared.Line.{Line}
+use Rattle.words.specs.declared.Line.the-variants.{Movement, Mark, End}
+use Rattle.lines.specs.Format.{lineText}
+use Rattle.lines.specs.Reading.{readOf}
+use Rattle.panel.specs.Calls.{carryOf, carryBytes}
+use Rattle.promise.specs.Campaign.{Answer, movement, mark, theEnd, taken, refusal, request, report}
+use Rattle.promise.specs.Bench.{Act, moves, meets, inFront}
+use Rattle.fitness.specs.declared.State.{State}
+use Rattle.campaign.specs.Calls.{answerOf, leftOf, bytesOf}
+use Rattle.demands.specs.Code.{Called, asks, tells}
+
+-- the line of an answer: a refusal has none
+abbrev pub lineOf : Answer → Option Line
+lineOf (movement o) = some (Movement (orderFrom o))
+lineOf (mark k r) = some (Mark k r)
+lineOf (theEnd k) = some (End k)
+lineOf taken = none
+lineOf (refusal k) = none
+
+-- ---- what the robot does
+
+-- what it reads at the front of a buffer: the line, and the place after it
+abbrev pub seen : List ℕ → Told (Line × ℕ)
+seen bytes = readOf largest64 mostPorts bytes 0
+
+-- its panel q after what it read
+abbrev pub obeyed : Told (Line × ℕ) → List ℕ → List ℕ
+obeyed (accepted x) q = carryBytes mostPorts (x .0) q
+obeyed (refused k s) q = q
+
+-- its panel after a request: it reads only where a line was written
+abbrev pub panelAfter : Option Line → List ℕ → List ℕ → List ℕ
+panelAfter none bytes q = q
+panelAfter (some l) bytes q = obeyed (seen bytes) q
+
+-- ---- what is asked of each request
+
+-- at a mark the panel is the pattern of the rank in that line
+abbrev pub MeetsAt : ℕ → Line → List ℕ → Type 0
+MeetsAt n (Movement o) q = Unit {0}
+MeetsAt n (Mark k r) q = q ≡ at n r
+MeetsAt n (End k) q = Unit {0}
+
+-- the answer's line l was written into the buffer buf, which has these bytes now; the robot's panel of n ports is q
+pub record Obeys (n : ℕ) (l : Line) (buf bytes q : List ℕ) : Type 0 where
+  -- the text reads as that line and as no other, and the place after it is the number of bytes written
+  pub reads : seen bytes ≡ accepted (l, length (lineText l))
+  -- 'Bytes after the written line keep their values'
+  pub later : drop (length (lineText l)) bytes ≡ drop (length (lineText l)) buf
+  pub long : length bytes ≡ length buf
+  -- the panel takes the line: no order is refused
+  pub takes : carryOf mostPorts l q ≡ accepted tt
+  -- 'Every mark then meets the pattern of its rank'
+  pub meets : MeetsAt n l q
+
+-- a request with its line; 'buffers stay' where it has none
+abbrev pub Asked : ℕ → Option Line → List ℕ → List ℕ → List ℕ → Type 0
+Asked n none buf bytes q = bytes ≡ buf
+Asked n (some l) buf bytes q = Obeys n l buf bytes q
+
+-- so of any calls, each on the state the last one left, with a robot whose panel of n ports is q at first
+unfoldable pub RobotMeets : ℕ → List ℕ → List Called → State → Type 0
+RobotMeets n q [] s = Unit {0}
+RobotMeets n q (asks buf ∷ cs) s =
+    let l = lineOf (answerOf (request (length buf)) s) in
+    Asked n l buf (bytesOf s buf) q × RobotMeets n (panelAfter l (bytesOf s buf) q) cs (leftOf (request (length buf)) s)
+RobotMeets n q (tells kind ∷ cs) s = RobotMeets n q cs (leftOf (report kind) s)
+
+-- ---- what happens on the bench, as the robot sees it
+
+-- by what it read: it carries an order out, it meets a mark
+abbrev pub lineActs : Line → List Act → List Act
+lineActs (Movement o) xs = moves (orderOf o) ∷ xs
+lineActs (Mark k r) xs = meets k r ∷ xs
+lineActs (End k) xs = xs
+
+abbrev pub seenActs : Told (Line × ℕ) → List Act → List Act
+seenActs (accepted x) xs = lineActs (x .0) xs
+seenActs (refused k s) xs = xs
+
+abbrev pub askedActs : Option Line → List ℕ → List Act → List Act
+askedActs none bytes xs = xs
+askedActs (some l) bytes xs = seenActs (seen bytes) xs
+
+-- of any calls: the orders and marks that it reads, and the reports that were taken
+unfoldable pub robotActs : List Called → State → List Act
+robotActs [] s = []
+robotActs (asks buf ∷ cs) s = askedActs (lineOf (answerOf (request (length buf)) s)) (bytesOf s buf) (robotActs cs (leftOf (request (length buf)) s))
+robotActs (tells kind ∷ cs) s = inFront (report kind) (answerOf (report kind) s) (robotActs cs (leftOf (report kind) s))
