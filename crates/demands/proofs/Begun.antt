@@ -7,7 +7,7 @@ use mathlib.Core.List.{List, [], _∷_, _++_, map}
 use Prim.Native.Nat.{ℕ, zero, suc, _-_, _≤_}
 use native.Mathlib.Omega.{arith}
 use lib.IntN.{ℤ, pos}
-use lib.ListN.{length, getD, take, replicate, length-append, length-replicate, length-map}
+use lib.ListN.{length, getD, take, replicate, length-append, length-map}
 use lib.Seq.{take-append-seam}
 use Rattle.listing.specs.Ends.{home}
 use Rattle.listing.specs.Limits.{mostPorts, mostLegs}
@@ -16,11 +16,11 @@ use Rattle.words.specs.Told.{accepted}
 use Rattle.promise.specs.Campaign.{first}
 use Rattle.promise.specs.Derangements.{derangements, onPorts}
 use Rattle.plans.specs.Grammar.{Planned, Fits}
-use Rattle.plans.specs.Answers.{signedRun, padded, placed, heldOf, plannedOf}
+use Rattle.plans.specs.Answers.{signedRun, placed, heldOf, plannedOf}
 use Rattle.plans.specs.Calls.{device, readPlanOf}
 use Rattle.plans.specs.declared.Plan.{Plan}
 use Rattle.plans.proofs.Plans.{accepted-fits}
-use Rattle.plans.proofs.Runs.{held-planned}
+use Rattle.plans.proofs.Runs.{held-planned, held-places}
 use Rattle.legs.specs.Rules.{planRuled}
 use Rattle.legs.proofs.Rules.{tells-ruled}
 use Rattle.fitness.specs.State.{width, settingOf, momentOf}
@@ -41,10 +41,6 @@ zeros-behind : {A : Type 0} (z : A) (l : List A) (k i : ℕ) → length l ≤ i 
 zeros-behind z [] k i h = zeros z k i
 zeros-behind z (x ∷ l) k zero h = absurd (omega arith)
 zeros-behind z (x ∷ l) k (suc i) h = zeros-behind z l k i (omega arith)
-
--- a list in places has as many entries as there are places
-padded-places : {A : Type 0} (most : ℕ) (z : A) (l : List A) → length l ≤ most → length (padded most z l) ≡ most
-padded-places most z l h = omega (arith, length-append l (replicate (most - length l) z), length-replicate (most - length l) z)
 
 -- home has as many jacks as there are ports
 length-home : (n : ℕ) → length (home n) ≡ n
@@ -75,9 +71,8 @@ module _ (p : Planned) (f : Fits device p) where
       let few : length (p .legs) ≤ mostLegs = f .manyLegs in
       let a : length starts ≡ length (p .legs) = length-map (p .legs) (λ l. l .start) in
       let b : length runs ≡ length (p .legs) = length-map (p .legs) (λ l. signedRun (l .back) (l .run)) in
-      let c : length (padded mostLegs 0 starts) ≡ mostLegs = padded-places mostLegs 0 starts (omega arith) in
-      let d : length (padded mostLegs (pos 0) runs) ≡ mostLegs = padded-places mostLegs (pos 0) runs (omega arith) in
-      tells-ruled device held c d .1 (record {
+      let places = held-places mostLegs p few in
+      tells-ruled device held (places .0) (places .1) .1 (record {
         fits = subst (Fits device) (sym holds) f;
         legs = few;
         starts = λ i h k. zeros-behind 0 starts (mostLegs - length starts) i (omega arith);
