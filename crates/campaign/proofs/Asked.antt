@@ -4,12 +4,11 @@ use mathlib.Core.Path.{_≡_, refl, ap, _∙_}
 use mathlib.Core.Bool.{Bool, true, false, cond, _&&_, true≢false}
 use mathlib.Core.List.{List, [], _∷_}
 use mathlib.Core.Option.{some}
-use Prim.Native.Nat.{ℕ, suc, _+_, _≤_, _<_}
+use Prim.Native.Nat.{ℕ, _+_, _≤_, _<_}
 use native.Mathlib.Omega.{arith}
 use borrow.Author.Tests.{lt-ltb, le-ltb, le-leb, lt-leb}
 use Rattle.listing.specs.Orders.{Order, InShape}
 use Rattle.listing.specs.Limits.{largest64}
-use Rattle.listing.proofs.Numbers.{from-two}
 use Rattle.listing.specs.Count.{count}
 use Rattle.promise.specs.Plan.{Leg}
 use Rattle.promise.specs.Campaign as model
@@ -17,7 +16,7 @@ use Rattle.promise.specs.Campaign.{Call, request, report, movement, mark, theEn
 use Rattle.promise.specs.Campaign.{todo, toCome, rankOf, closedMarks, offer}
 use Rattle.promise.specs.Derangements.{derangements}
 use Rattle.promise.proofs.Ways.{coming}
-use Rattle.promise.proofs.Derangements.{lawful}
+use Rattle.promise.proofs.Derangements.{lawful-on}
 use Rattle.ways.proofs.Walks.{walk-listed}
 use Rattle.fitness.specs.State.{settingOf, momentOf}
 use Rattle.fitness.specs.Fitness.{placesFit, fit}
@@ -110,15 +109,8 @@ counts-room s z f st =
 -- ---- the next order is in shape
 
 -- of the orders still to come the first is in shape on the panel
-NextShaped : ℕ → Type 0
-NextShaped n = (l : Leg) (k : ℕ) (q : List ℕ) (o : Order) (os : List Order) → l .start < count n → toCome (derangements n) l k q ≡ some (o ∷ os) → InShape n o
-
-shaped-from-two : (m : ℕ) → NextShaped (suc (suc m))
-unfolding NextShaped derangements
-shaped-from-two m l k q o os h e =
-    coming (derangements (suc (suc m))) (lawful m) l k (λ i b. walk-listed (suc (suc m)) (omega arith) (l .start) (l .back) i h) q (o ∷ os) e .shaped .0
-
 pub next-shaped : (n : ℕ) → 2 ≤ n → (l : Leg) (k : ℕ) (q : List ℕ) (o : Order) (os : List Order) → l .start < count n
     → toCome (derangements n) l k q ≡ some (o ∷ os) → InShape n o
-unfolding NextShaped
-next-shaped n two = from-two NextShaped shaped-from-two n two
+unfolding derangements
+next-shaped n two l k q o os h e =
+    coming (derangements n) (lawful-on n two) l k (λ i b. walk-listed n two (l .start) (l .back) i h) q (o ∷ os) e .shaped .0

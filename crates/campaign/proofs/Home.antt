@@ -2,7 +2,7 @@
 -- Assumes nothing.
 use mathlib.Core.Path.{_≡_, refl, sym, ap, _∙_}
 use mathlib.Core.List.{List, [], _∷_, _++_}
-use Prim.Native.Nat.{ℕ, zero, suc, _+_, _-_, _<_, _≤_}
+use Prim.Native.Nat.{ℕ, suc, _+_, _-_, _<_, _≤_}
 use native.Mathlib.Numerals.{add-one}
 use native.Mathlib.Omega.{arith}
 use lib.ListN.{length, set, replicate}
@@ -12,17 +12,12 @@ use Rattle.listing.specs.Ends.{home}
 use Rattle.listing.specs.Limits.{mostPorts, mostLegs}
 use Rattle.listing.proofs.Panels.{length-tabulate}
 use Rattle.words.specs.Told.{Told, accepted, refused}
+use Rattle.levels.proofs.Filling.{tabulate-more}
 use Rattle.plans.specs.Grammar.{Planned}
 use Rattle.plans.specs.Answers.{padded, placed, heldOf}
 use Rattle.plans.specs.Calls.{device, readPlanOf}
 use Rattle.plans.proofs.Plans.{accepted-fits}
 use Rattle.plans.proofs.Turns.{padded-set}
-
--- one jack more
-tabulate-snoc : (j : ℕ) (g : ℕ → ℕ) → tabulate j g ++ (g (suc j) ∷ []) ≡ tabulate (suc j) g
-unfolding tabulate
-tabulate-snoc zero g = refl
-tabulate-snoc (suc j) g = ap (λ l. g 1 ∷ l) (tabulate-snoc j (λ k. g (suc k)))
 
 -- the panel with its first j jacks set, and 0 beyond
 abbrev pub homeTo : ℕ → ℕ → List ℕ
@@ -42,7 +37,7 @@ home-more n j v p h e f =
     ∙ ap (λ k. set (homeTo n j) k v) (sym long)
     ∙ padded-set mostPorts 0 v (tabulate j g) (omega arith)
     ∙ ap (λ x. padded mostPorts 0 (tabulate j g ++ (x ∷ []))) (f ∙ ap g (add-one j))
-    ∙ ap (padded mostPorts 0) (tabulate-snoc j g ∙ ap (λ k. tabulate k g) (sym (add-one j)))
+    ∙ ap (padded mostPorts 0) (sym (tabulate-more j g) ∙ ap (λ k. tabulate k g) (sym (add-one j)))
 
 -- all are
 pub home-all : (n j : ℕ) → j ≡ n → homeTo n j ≡ home n ++ replicate (mostPorts - n) 0

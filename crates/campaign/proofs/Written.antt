@@ -4,18 +4,16 @@ use mathlib.Core.Path.{_≡_, refl, sym, ap, _∙_}
 use mathlib.Core.Bool.{true}
 use mathlib.Core.List.{List}
 use Prim.Native.Nat.{ℕ, _≤_, _<_}
-use native.Mathlib.Omega.{arith}
 use lib.ListN.{length}
 use borrow.Author.Tests.{lt-ltb, le-ltb}
 use Rattle.listing.specs.Limits.{mostPorts}
 use Rattle.listing.proofs.Numbers.{either, below?}
 use Rattle.words.specs.Told.{Told, Spot, accepted, refused, nowhere}
 use Rattle.words.specs.Shape.{lineFits}
-use Rattle.words.specs.declared.Order.the-variants.{Swap, Turn}
 use Rattle.words.specs.declared.Line.{Line}
 use Rattle.words.specs.declared.Line.the-variants.{Movement, Mark, End}
 use Rattle.words.proofs.Once.{order-back}
-use Rattle.words.proofs.Shape.{fits-passes, passes-fits}
+use Rattle.words.proofs.Shape.{fits-more}
 use Rattle.words.proofs.Told.{not-both, accepted-once}
 use Rattle.lines.specs.Format.{lineText}
 use Rattle.lines.specs.Calls.{writeOf, writeBytes}
@@ -30,18 +28,11 @@ text-of-line (Movement o) = ap (λ x. lineText (Movement x)) (order-back o)
 text-of-line (Mark k r) = refl
 text-of-line (End k) = refl
 
--- a line that fits fewer jacks fits more
-fits-more : (n : ℕ) → n ≤ mostPorts → (l : Line) → lineFits n l ≡ true → lineFits mostPorts l ≡ true
-fits-more n h (Movement (Swap a b)) e =
-    let f = passes-fits n (Movement (Swap a b)) e in
-    fits-passes mostPorts (Movement (Swap a b)) (f .0, f .1, omega (arith, f .2))
-fits-more n h (Movement (Turn a b c)) e =
-    let f = passes-fits n (Movement (Turn a b c)) e in
-    fits-passes mostPorts (Movement (Turn a b c)) (f .0, f .1, omega (arith, f .2), f .3, omega (arith, f .4), f .5)
-fits-more n h (Mark k r) e = refl
-fits-more n h (End k) e = refl
-
 module _ (n : ℕ) (few : n ≤ mostPorts) (l : Line) (fits : lineFits n l ≡ true) (buf : List ℕ) where
+  -- it fits the writer's jacks
+  wide : lineFits mostPorts l ≡ true
+  wide = fits-more n mostPorts l few fits
+
   -- where it was written there was room: so the answer stands, and its text is in front
   pub record WrittenAs (k : ℕ) : Type 0 where
     pub bytes : k ≡ width (lineIs l)
@@ -61,9 +52,9 @@ module _ (n : ℕ) (few : n ≤ mostPorts) (l : Line) (fits : lineFits n l ≡ t
   pub was-written : (k : ℕ) → accepted k ≡ writeOf mostPorts l buf → WrittenAs k
   was-written k e =
       either (below? (length buf) (length (lineText l)))
-      (λ h. absurd (not-both (write-room mostPorts l buf (fits-more n few l fits) h .0 ∙ sym e)))
+      (λ h. absurd (not-both (write-room mostPorts l buf wide h .0 ∙ sym e)))
       (λ h.
-      let w = write-front mostPorts l buf (fits-more n few l fits) h in
+      let w = write-front mostPorts l buf wide h in
       record {
         bytes = accepted-once (e ∙ sym (w .0)) ∙ ap length (sym (text-of-line l));
         answer = room-answer h;
@@ -80,6 +71,6 @@ module _ (n : ℕ) (few : n ≤ mostPorts) (l : Line) (fits : lineFits n l ≡ t
   not-written k s e =
       either (below? (length buf) (length (lineText l)))
       (λ h.
-      let w = write-room mostPorts l buf (fits-more n few l fits) h in
+      let w = write-room mostPorts l buf wide h in
       record { told = e ∙ sym (w .0); answer = short-answer h; left = sym (w .1) })
-      (λ h. absurd (not-both (e ∙ sym (write-front mostPorts l buf (fits-more n few l fits) h .0))))
+      (λ h. absurd (not-both (e ∙ sym (write-front mostPorts l buf wide h .0))))

@@ -17,6 +17,7 @@ use Rattle.listing.specs.Pattern.{Permutation}
 use Rattle.listing.proofs.Limits.{count-20}
 use Rattle.words.specs.Told.{accepted}
 use Rattle.words.specs.declared.Line.{Line}
+use Rattle.words.proofs.Once.{order-there}
 use Rattle.checks.proofs.Accepted.{Panel, panel-accepted}
 use Rattle.lines.specs.Format.{lineText}
 use Rattle.lines.proofs.Inverse.{read-written, campaign-proper}
@@ -33,15 +34,15 @@ use Rattle.promise.proofs.Marks.{closed-so}
 use Rattle.promise.proofs.Steps.{Does, closes, errs, refuses}
 use Rattle.plans.specs.Grammar.{Planned}
 use Rattle.plans.specs.Calls.{readPlanOf}
-use Rattle.fitness.specs.State.{momentOf}
+use Rattle.fitness.specs.State.{answerLine, textOf, momentOf}
 use Rattle.fitness.specs.declared.State.{State}
 use Rattle.campaign.specs.Calls.{answerOf, leftOf, bytesOf, begunOf}
 use Rattle.demands.specs.Code.{campaignOf, Called, asks, tells, turnsOf, leftAfter}
-use Rattle.demands.specs.Robot.{lineOf, seen, obeyed, panelAfter, Obeys, Asked, RobotMeets, lineActs, seenActs, askedActs, robotActs}
+use Rattle.demands.specs.Robot.{seen, obeyed, panelAfter, Obeys, Asked, RobotMeets, lineActs, seenActs, askedActs, robotActs}
 use Rattle.demands.proofs.Begun.{plan-fits}
 use Rattle.demands.proofs.Kept.{answer-on}
 use Rattle.demands.proofs.Three.{begun-moment, demand-left, all-met}
-use Rattle.demands.proofs.Shown.{order-there, textOf, text-by, Shows, Shown, shows, room-enough}
+use Rattle.demands.proofs.Shown.{Shows, Shown, shows, room-enough}
 use Rattle.demands.proofs.Reached.{Reached, reached-first, does-there, reached-left}
 
 -- ---- one line at the front of a buffer
@@ -99,7 +100,7 @@ seen-line n none buf bytes q xs h = refl
 seen-line n (some l) buf bytes q xs h = ap (λ r. seenActs r xs) (h .reads)
 
 -- which is what happens on the bench
-line-front : (room : ℕ) (a : Answer) (xs : List Act) → lineFront (lineOf a) xs ≡ inFront (request room) a xs
+line-front : (room : ℕ) (a : Answer) (xs : List Act) → lineFront (answerLine a) xs ≡ inFront (request room) a xs
 unfolding lineFront
 line-front room (movement o) xs = ap (λ x. moves x ∷ xs) (order-there o)
 line-front room (mark k r) xs = refl
@@ -125,22 +126,21 @@ module _ (t : List ℕ) (p : Planned) (e : readPlanOf t ≡ accepted p) where
     a = answerOf (request (length buf)) s
 
     -- the line that is given has room
-    room-there : (o : Option Line) → lineOf a ≡ o → length (textOf o) ≤ length buf
+    room-there : (o : Option Line) → answerLine a ≡ o → length (textOf o) ≤ length buf
     unfolding a
     room-there none h = omega arith
     room-there (some l) h =
-        room-enough C (momentOf s) (R .fit) (length buf) l refl (ap lineOf (sym (answer-on C s (R .kept) (R .setting) (request (length buf)))) ∙ h)
+        room-enough C (momentOf s) (R .fit) (length buf) l refl (ap answerLine (sym (answer-on C s (R .kept) (R .setting) (request (length buf)))) ∙ h)
 
     -- so the request is obeyed, and the robot's panel stays that of the state
-    obeyed-there : Asked (p .ports) (lineOf a) buf (bytesOf s buf) (momentOf s .panel)
-        × (panelAfter (lineOf a) (bytesOf s buf) (momentOf s .panel) ≡ momentOf (leftOf (request (length buf)) s) .panel)
+    obeyed-there : Asked (p .ports) (answerLine a) buf (bytesOf s buf) (momentOf s .panel)
+        × (panelAfter (answerLine a) (bytesOf s buf) (momentOf s .panel) ≡ momentOf (leftOf (request (length buf)) s) .panel)
     unfolding a bytesOf
     obeyed-there =
         let f = plan-fits t p e in
         let d = does-there t p e s R (request (length buf)) in
-        rw (text-by (answerOf (request (length buf)) s))
-        (asked-so (p .ports) (f .fewPorts) (f .manyPorts) (lineOf a) buf (momentOf s .panel) (momentOf (leftOf (request (length buf)) s) .panel)
-        (room-there (lineOf a) refl) (R .permutation) (shows t p e (R .fit) d))
+        asked-so (p .ports) (f .fewPorts) (f .manyPorts) (answerLine a) buf (momentOf s .panel) (momentOf (leftOf (request (length buf)) s) .panel)
+        (room-there (answerLine a) refl) (R .permutation) (shows t p e (R .fit) d)
 
   -- of every state that calls leave
   meets-from : (cs : List Called) (s : State) → Reached p s → RobotMeets (p .ports) (momentOf s .panel) cs s
@@ -161,7 +161,7 @@ module _ (t : List ℕ) (p : Planned) (e : readPlanOf t ≡ accepted p) where
   sees-from (asks buf ∷ cs) s R =
       let c = request (length buf) in
       let xs = robotActs cs (leftOf c s) in
-      seen-line (p .ports) (lineOf (answerOf c s)) buf (bytesOf s buf) (momentOf s .panel) xs (obeyed-there s R buf .0)
+      seen-line (p .ports) (answerLine (answerOf c s)) buf (bytesOf s buf) (momentOf s .panel) xs (obeyed-there s R buf .0)
       ∙ line-front (length buf) (answerOf c s) xs
       ∙ ap (inFront c (answerOf c s)) (sees-from cs (leftOf c s) (reached-left t p e s R c))
   sees-from (tells kind ∷ cs) s R =

@@ -4,22 +4,16 @@
 use mathlib.Core.Path.{_≡_, refl, sym, ap, subst, _∙_}
 use mathlib.Core.Logic.{_≢_}
 use mathlib.Core.Bool.{Bool, true, false, not, cond, _&&_, true≢false}
-use mathlib.Core.List.{List, [], _∷_, _++_}
+use mathlib.Core.List.{List, [], _∷_}
 use Prim.Native.Nat.{ℕ, zero, suc, _+_, _≤_, _<_}
 use native.Mathlib.Nat.{zero-add}
 use native.Mathlib.Omega.{arith}
 use lib.Dec.{leb, ltb}
-use lib.ListN.{length, getD, replicate, length-append, length-replicate}
+use lib.ListN.{length, getD, replicate, length-replicate}
 use Rattle.listing.specs.Limits.{mostLegs}
-use Rattle.listing.proofs.Limits.{count-20}
 use Rattle.listing.proofs.Numbers.{either, test, below?}
 use Rattle.words.specs.Told.{accepted}
-use Rattle.words.specs.declared.Line.the-variants.{Mark}
-use Rattle.texts.specs.Parts.{comma}
-use Rattle.decimals.specs.Decimal.{digitsOf}
-use Rattle.decimals.proofs.Lengths.{digits-at-most, digits-above}
-use Rattle.lines.specs.Format.{marking, key, listed, keyText, unended, lineText}
-use Rattle.lines.proofs.Inverse.{text-length}
+use Rattle.lines.proofs.Longest.{mark-45}
 use Rattle.promise.specs.Plan.{legAt, rankAt, ranks, number}
 use Rattle.promise.specs.Campaign.{Setting, request, report, wordOf, isError, isClosing, Answer, movement, mark, theEnd, taken, refusal, fit, offer, answer}
 use Rattle.promise.specs.Campaign as model
@@ -29,10 +23,9 @@ use Rattle.promise.specs.Progress.{callsToEnd}
 use Rattle.promise.proofs.Legs.{number-below, length-ranks, ranks-at}
 use Rattle.promise.proofs.Marks.{length-numbered}
 use Rattle.promise.proofs.Refusals.{refused-so, served}
-use Rattle.plans.specs.Grammar.{Planned, Wide, planText}
-use Rattle.plans.specs.Calls.{device, readPlanOf}
-use Rattle.plans.proofs.Plans.{fits-accepted}
-use Rattle.plans.proofs.Longest.{longestLeg, longest, longest-fits}
+use Rattle.plans.specs.Grammar.{Planned, planText}
+use Rattle.plans.specs.Calls.{readPlanOf}
+use Rattle.plans.proofs.Longest.{longestLeg, longest, longest-accepted}
 use Rattle.fitness.specs.State.{answerText, width, settingOf, momentOf}
 use Rattle.fitness.specs.Fitness.{placesFit}
 use Rattle.fitness.specs.declared.State.{State}
@@ -135,35 +128,10 @@ module _ (t : List ℕ) (p : Planned) (e : readPlanOf t ≡ accepted p) where
 
 -- ---- 45 bytes
 
--- the numbers of the device are wide enough for its ports, legs and ranks
-wide : Wide device
-wide = record { ports = omega arith; legs = omega arith; ranks = omega (arith, count-20) }
-
--- the text of the longest plan is accepted
-longest-accepted : readPlanOf (planText longest) ≡ accepted longest
-longest-accepted = fits-accepted device 1 longest wide longest-fits
-
--- its last leg's first mark
+-- the first mark of the longest plan's last leg
 last-leg : number (longest .legs) 15 0 ≡ 13425219467893531815
 unfolding number
 last-leg = refl
-
--- it has 45 bytes
-last-45 : length (lineText (Mark 13425219467893531815 895014631192902120)) ≡ 45
-unfolding unended keyText listed
-last-45 =
-    let a = digitsOf 13425219467893531815 in
-    let b = digitsOf 895014631192902120 in
-    omega (
-      arith,
-      text-length (Mark 13425219467893531815 895014631192902120),
-      length-append (key marking) (a ++ (comma ∷ b)),
-      length-append a (comma ∷ b),
-      digits-at-most 19 13425219467893531815 (omega arith),
-      digits-above 19 13425219467893531815 (omega arith),
-      digits-at-most 17 895014631192902120 (omega arith),
-      digits-above 17 895014631192902120 (omega arith),
-    )
 
 -- after some calls on the plan of a text the next line has n bytes: a buffer of n is enough, and none of fewer
 pub record Needs (t : List ℕ) (n : ℕ) : Type 0 where
@@ -195,7 +163,7 @@ needs-45 =
     sym (answer-on D s (R .kept) (R .setting) (request (length (g .buffer)))) ∙ g .is ∙ ap (λ k. mark k 895014631192902120) last-leg in
     let st = none-stands D m (R .fit) (length (g .buffer)) _ _ said in
     let next = offered D m (R .fit) (length (g .buffer)) _ _ said in
-    let wide : width (offer D m) ≡ 45 = ap width next ∙ last-45 in
+    let wide : width (offer D m) ≡ 45 = ap width next ∙ mark-45 13425219467893531815 895014631192902120 (omega arith) (omega arith) (omega arith) (omega arith) in
     record {
       calls = g .calls;
       enough = λ room h. ap width (answer-on D s (R .kept) (R .setting) (request room) ∙ served D m room (R .fit) st (omega arith)) ∙ wide;

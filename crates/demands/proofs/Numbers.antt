@@ -3,9 +3,10 @@
 use mathlib.Core.Path.{ap, subst}
 use mathlib.Core.Bool.{Bool, true, false, cond, true≢false}
 use mathlib.Core.List.{List}
+use mathlib.Core.Option.{Option, none, some}
 use Prim.Native.Nat.{ℕ}
 use lib.Dec.{leb}
-use Rattle.words.specs.Told.{Told, Spot, accepted, refused, then, leaves}
+use Rattle.words.specs.Told.{Told, Spot, accepted, refused, then, need, leaves}
 use Rattle.checks.specs.Calls.{sized}
 use Rattle.promise.specs.Campaign.{Answer, refusal}
 use Rattle.demands.specs.One.{OneOf, Refuses, Keeps, RefusesAs}
@@ -22,6 +23,11 @@ module _ (ns : List ℕ) where
   pub from-then : {A B : Type 0} (t : Told A) (f : A → Told B) → Refuses ns t → ((a : A) → Refuses ns (f a)) → Refuses ns (then t f)
   from-then (accepted a) f h g = g a
   from-then (refused i r) f h g = λ k s e. h k s (cc)
+
+  -- what has to be there
+  pub from-need : {A : Type 0} (i : ℕ) (r : Spot) (o : Option A) → OneOf ns i → Refuses ns (need i r o)
+  from-need i r none h = from-refused i r h
+  from-need i r (some a) h = from-accepted a
 
   -- a test
   pub from-cond : {A : Type 0} (b : Bool) (t u : Told A) → Refuses ns t → Refuses ns u → Refuses ns (cond b t u)

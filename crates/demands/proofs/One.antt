@@ -4,11 +4,11 @@
 use mathlib.Core.Path.{_≡_, refl, sym, ap, _∙_}
 use mathlib.Core.Logic.{inl, inr}
 use mathlib.Core.Bool.{Bool, true, false, not, _&&_, true≢false}
-use mathlib.Core.List.{List, [], _∷_, _++_}
+use mathlib.Core.List.{List, [], _∷_}
 use mathlib.Core.Option.{Option, none, some}
 use Prim.Native.Nat.{ℕ}
 use lib.Dec.{leb, ltb}
-use lib.ListN.{length, drop, take-append-drop}
+use lib.ListN.{length, drop}
 use Rattle.listing.specs.Orders.{Order}
 use Rattle.listing.specs.Limits.{mostPorts, largest64}
 use Rattle.listing.specs.Count.{count}
@@ -25,17 +25,20 @@ use Rattle.texts.specs.Parts.{newline, cut, after}
 use Rattle.lines.specs.Format.{Kind, swapping, turning, marking, ending, key, commas, lineOf, lineText}
 use Rattle.lines.specs.Calls.{roomOf, writeOf, writeBytes}
 use Rattle.words.specs.Shape.{lineFits}
-use Rattle.lines.specs.Reading.{fitting, orRefused, numbersIn, numbersTold, keyed, lineIn, readOf}
+use Rattle.lines.specs.Reading.{fitting, numbersIn, numbersTold, keyed, lineIn, readOf}
 use Rattle.plans.specs.Calls.{device}
 use Rattle.promise.specs.Campaign.{Setting, refusal, Call, request, report, wordOf, isError, todo, next, offer, answer}
 use Rattle.promise.specs.Campaign as model
-use Rattle.fitness.specs.State.{answerText, settingOf, momentOf, atMoment}
+use Rattle.fitness.specs.State.{settingOf, momentOf}
 use Rattle.fitness.specs.Fitness.{placesFit}
 use Rattle.fitness.specs.declared.State.{State}
+use Rattle.campaign.specs.Calls as calls
 use Rattle.campaign.specs.Calls.{answerOf, leftOf, bytesOf}
+use Rattle.campaign.proofs.Moments.{refusal-leaves}
+use Rattle.campaign.proofs.Tells.{bytes-stay}
 use Rattle.demands.specs.One.{OneOf, Refuses, RefusesAs, DemandOne}
 use Rattle.demands.proofs.PlanNumbers.{plan-numbers}
-use Rattle.demands.proofs.Numbers.{from-accepted, from-refused, from-then, from-cond, from-sized, answer-cond, answer-refusal, kept}
+use Rattle.demands.proofs.Numbers.{from-accepted, from-refused, from-then, from-need, from-cond, from-sized, answer-cond, answer-refusal, kept}
 
 -- ---- patterns
 
@@ -82,15 +85,11 @@ fitting-numbers : (ns : List ℕ) (l : Line) → OneOf ns 17 → Refuses ns (fit
 unfolding fitting
 fitting-numbers ns l h = from-cond ns (lineFits mostPorts l) _ _ (from-accepted ns l) (from-refused ns 17 nowhere h)
 
-there-numbers : {A : Type 0} (i : ℕ) (o : Option A) → OneOf ofLine i → Refuses ofLine (orRefused i o)
-there-numbers i none h = from-refused ofLine i nowhere h
-there-numbers i (some a) h = from-accepted ofLine a
-
 keyed-numbers : (k : Kind) (o : Option (List ℕ)) (other : Told Line) → Refuses ofLine other → Refuses ofLine (keyed largest64 mostPorts k o other)
 unfolding numbersTold
 keyed-numbers k none other h = h
 keyed-numbers k (some v) other h =
-    from-then ofLine _ _ (there-numbers 8 (numbersIn largest64 (commas k) v) (inr (inr (inl refl))))
+    from-then ofLine _ _ (from-need ofLine 8 nowhere (numbersIn largest64 (commas k) v) (inr (inr (inl refl))))
     (λ x. fitting-numbers ofLine (lineOf k x) (inr (inr (inr (inl refl)))))
 
 line-numbers : (t : List ℕ) → Refuses ofLine (lineIn largest64 mostPorts t)
@@ -105,7 +104,7 @@ line-numbers t =
 read-numbers : (t : List ℕ) (place : ℕ) → Refuses ofLine (readOf largest64 mostPorts t place)
 unfolding readOf
 read-numbers t place =
-    from-then ofLine _ _ (there-numbers 11 (cut newline (drop place t)) (inl refl))
+    from-then ofLine _ _ (from-need ofLine 11 nowhere (cut newline (drop place t)) (inl refl))
     (λ p. from-then ofLine _ _ (line-numbers (p .front)) (λ l. from-accepted ofLine _))
 
 write-numbers : (l : Line) (buf : List ℕ) → Refuses (17 ∷ 2 ∷ []) (writeOf mostPorts l buf)
@@ -157,32 +156,14 @@ report-numbers kind s =
     (λ k e. absurd (true≢false (cc)))))))
     (answer-refusal ofReport 15 (inl refl))
 
--- a state at its own moment is that state
-own-moment : (s : State) → atMoment (momentOf s) s ≡ s
-own-moment s =
-    ap
-    (λ q. record {
-      plan = s .plan;
-      panel = q;
-      leg = s .leg;
-      step = s .step;
-      covered = s .covered;
-      opened = s .opened;
-      errors = s .errors;
-      standing = s .standing;
-      ended = s .ended;
-    })
-    (take-append-drop (s .plan .ports) (s .panel))
-
 -- a refused call leaves the state as it was, fit or not
 pub state-kept : (c : Call) (s : State) (k : ℕ) → answerOf c s ≡ refusal k → leftOf c s ≡ s
-unfolding leftOf model.after
-state-kept c s k e = ap (λ a. atMoment (model.after (settingOf s) c a (momentOf s)) s) e ∙ own-moment s
+unfolding leftOf
+state-kept c s k e = ap (λ a. calls.after c a s) e ∙ sym (refusal-leaves c k s)
 
 -- and so the buffer
 pub buffer-kept : (s : State) (buf : List ℕ) (k : ℕ) → answerOf (request (length buf)) s ≡ refusal k → bytesOf s buf ≡ buf
-unfolding bytesOf
-buffer-kept s buf k e = ap (λ a. answerText a ++ drop (length (answerText a)) buf) e
+buffer-kept s buf k e = sym (bytes-stay s buf k e)
 
 -- ---- demand one
 

@@ -3,16 +3,15 @@
 use mathlib.Core.Path.{refl}
 use mathlib.Core.Logic.{inl, inr}
 use mathlib.Core.List.{List, [], _∷_}
-use mathlib.Core.Option.{Option, none, some}
 use Prim.Native.Nat.{ℕ, zero, suc}
 use Rattle.listing.specs.Count.{count}
 use Rattle.words.specs.Told.{atLine}
 use Rattle.texts.specs.Parts.{newline, cut, after}
 use Rattle.plans.specs.Grammar.{Limits}
-use Rattle.fields.specs.Field.{need, lineIn, between, Field, fieldIn}
+use Rattle.fields.specs.Field.{lineIn, between, Field, fieldIn}
 use Rattle.plans.specs.Reading.{portsField, legsField, startField, runField, legIn, legsIn, planIn}
 use Rattle.demands.specs.One.{OneOf, Refuses}
-use Rattle.demands.proofs.Numbers.{from-accepted, from-refused, from-then, from-cond}
+use Rattle.demands.proofs.Numbers.{from-accepted, from-refused, from-then, from-need, from-cond}
 
 -- ---- plans: the numbers of its refusals
 
@@ -22,13 +21,9 @@ field-numbers : (ns : List ℕ) {A : Type 0} (f : Field A) (line : ℕ) (t : Lis
 unfolding fieldIn lineIn
 field-numbers ns f line t e v z h =
     from-then ns _ _
-    (from-then ns _ _ (needed 11 e (cut newline t)) (λ p. from-then ns _ _ (needed 7 v (after (f .key) (p .front))) (λ w. from-accepted ns _)))
-    (λ p. from-then ns _ _ (needed 8 z (f .number (p .front)))
+    (from-then ns _ _ (from-need ns 11 (atLine line) (cut newline t) e) (λ p. from-then ns _ _ (from-need ns 7 (atLine line) (after (f .key) (p .front)) v) (λ w. from-accepted ns _)))
+    (λ p. from-then ns _ _ (from-need ns 8 (atLine line) (f .number (p .front)) z)
     (λ a. from-cond ns (between (f .low) (f .below) (f .size a)) _ _ (from-accepted ns _) (from-refused ns (f .refusal) _ h)))
-  where
-    needed : {B : Type 0} (i : ℕ) → OneOf ns i → (o : Option B) → Refuses ns (need i line o)
-    needed i x none = from-refused ns i (atLine line) x
-    needed i x (some b) = from-accepted ns b
 
 -- the numbers of a plan, in the paper's order
 abbrev ns : List ℕ

@@ -25,14 +25,13 @@ use Rattle.plans.specs.Grammar.{Planned}
 use Rattle.plans.specs.Answers.{placed, heldOf}
 use Rattle.plans.specs.Calls.{readPlanOf}
 use Rattle.legs.specs.Rules.{planRuled}
-use Rattle.fitness.specs.State.{width, momentOf}
+use Rattle.fitness.specs.State.{answerLine, textOf, width, momentOf}
 use Rattle.fitness.specs.Fitness.{placesFit}
 use Rattle.fitness.specs.declared.State.{State}
 use Rattle.campaign.specs.Calls.{answerOf, begunOf, firstState}
 use Rattle.demands.specs.Code.{campaignOf, Called, leftAfter}
-use Rattle.demands.specs.Robot.{lineOf}
 use Rattle.demands.proofs.Kept.{answer-on}
-use Rattle.demands.proofs.Shown.{textOf, text-by, Shown, shows}
+use Rattle.demands.proofs.Shown.{Shown, shows}
 use Rattle.demands.proofs.Reached.{does-there, reached-after}
 
 -- ---- 15
@@ -62,8 +61,8 @@ module _ (t : List ℕ) (p : Planned) (e : readPlanOf t ≡ accepted p) where
   offer-45 m f st =
       let c = request (width (offer C m)) in
       let given : answer C c m ≡ offer C m = served C m (width (offer C m)) f st (omega arith) in
-      let few = shown-45 (p .ports) (lineOf (answer C c m)) (m .panel) (after C c (answer C c m) m .panel) (shows t p e f (does-so C m f c)) in
-      omega (arith, ap length (text-by (offer C m)), ap (λ a. length (textOf (lineOf a))) given)
+      let few = shown-45 (p .ports) (answerLine (answer C c m)) (m .panel) (after C c (answer C c m) m .panel) (shows t p e f (does-so C m f c)) in
+      omega (arith, ap width given)
 
   -- why a request is refused with 2
   no-room : (m : model.State) (room : ℕ) → Fit C m → 45 ≤ room → Why C m (request room) 2 → ⊥

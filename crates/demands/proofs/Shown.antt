@@ -3,7 +3,7 @@
 -- Assumes nothing.
 use mathlib.Core.Path.{_≡_, refl, sym, ap, subst, _∙_}
 use mathlib.Core.Bool.{true, true≢false}
-use mathlib.Core.List.{List, [], _∷_}
+use mathlib.Core.List.{List, _∷_}
 use mathlib.Core.Option.{Option, none, some}
 use Prim.Native.Nat.{ℕ, _≤_, _<_}
 use native.Mathlib.Omega.{arith}
@@ -11,7 +11,7 @@ use lib.ListN.{length}
 use Rattle.listing.specs.Count.{count}
 use Rattle.listing.specs.Pattern.{Permutation}
 use Rattle.listing.specs.Orders as list
-use Rattle.listing.specs.Orders.{swap, turn, carry, InShape}
+use Rattle.listing.specs.Orders.{carry, InShape}
 use Rattle.listing.specs.Limits.{mostPorts, largest64}
 use Rattle.listing.proofs.Numbers.{either, test, below?}
 use Rattle.listing.proofs.Limits.{count-20, count-most}
@@ -19,13 +19,14 @@ use Rattle.listing.proofs.Sources.{carry-permutation}
 use Rattle.words.specs.Told.{accepted}
 use Rattle.words.specs.Meaning.{orderOf, orderFrom}
 use Rattle.words.specs.declared.Line.{Line}
-use Rattle.words.proofs.Shape.{shape-shaped}
+use Rattle.words.proofs.Once.{order-there}
+use Rattle.words.proofs.Shape.{shape-shaped, shape-more}
 use Rattle.lines.specs.Format.{lineText}
 use Rattle.lines.specs.Campaign.{OfCampaign}
 use Rattle.words.specs.Shape.{lineFits}
 use Rattle.panel.specs.Calls as panel
 use Rattle.promise.specs.Plan.{marks}
-use Rattle.promise.specs.Campaign.{State, Setting, Call, request, Answer, movement, mark, theEnd, taken, refusal, here, numberOf, rankOf, todo, offer, answer}
+use Rattle.promise.specs.Campaign.{State, Setting, Call, request, Answer, movement, mark, refusal, here, numberOf, rankOf, todo, offer, answer}
 use Rattle.promise.specs.Fitness.{Fit, noRoom, markStands}
 use Rattle.promise.specs.Derangements.{derangements}
 use Rattle.promise.proofs.Legs.{number-below}
@@ -36,36 +37,11 @@ use Rattle.promise.proofs.Refusals.{refused-so, served}
 use Rattle.plans.specs.Grammar.{Planned}
 use Rattle.plans.specs.Calls.{readPlanOf}
 use Rattle.plans.proofs.Longest.{marks-most}
-use Rattle.fitness.specs.State.{answerText, width}
+use Rattle.fitness.specs.State.{answerLine, textOf, width}
 use Rattle.demands.specs.Code.{campaignOf}
-use Rattle.demands.specs.Robot.{lineOf, MeetsAt}
+use Rattle.demands.specs.Robot.{MeetsAt}
 use Rattle.demands.proofs.Begun.{plan-fits}
 use Rattle.demands.proofs.Three.{lawful, accepts}
-
--- ---- lines
-
--- an order by its jacks is that order
-pub order-there : (o : list.Order) → orderOf (orderFrom o) ≡ o
-order-there (swap a b) = refl
-order-there (turn a b c) = refl
-
--- in shape for fewer jacks, in shape for more
-shape-more : (n k : ℕ) (o : list.Order) → n ≤ k → InShape n o → InShape k o
-shape-more n k (swap a b) h s = (s .0, s .1, omega arith)
-shape-more n k (turn a b c) h s = (s .0, s .1, omega arith, s .3, omega arith, s .5)
-
--- the text of a line; none is written where there is none
-abbrev pub textOf : Option Line → List ℕ
-textOf none = []
-textOf (some l) = lineText l
-
--- an answer writes the text of its line
-pub text-by : (a : Answer) → answerText a ≡ textOf (lineOf a)
-text-by (movement o) = refl
-text-by (mark k r) = refl
-text-by (theEnd k) = refl
-text-by taken = refl
-text-by (refusal k) = refl
 
 -- ---- what a call shows
 
@@ -98,7 +74,7 @@ module _ (t : List ℕ) (p : Planned) (e : readPlanOf t ≡ accepted p) where
   shape-so m f o os w = coming-here C (lawful t p e) (accepts t p e) m f (o ∷ os) w .shaped .0
 
   -- an order in shape
-  order-shown : (o : list.Order) (q : List ℕ) → InShape (p .ports) o → Shown (p .ports) (lineOf (movement o)) q (carry o q)
+  order-shown : (o : list.Order) (q : List ℕ) → InShape (p .ports) o → Shown (p .ports) (answerLine (movement o)) q (carry o q)
   order-shown o q s =
       let back : InShape (p .ports) (orderOf (orderFrom o)) = subst (InShape (p .ports)) (sym (order-there o)) s in
       record {
@@ -109,7 +85,7 @@ module _ (t : List ℕ) (p : Planned) (e : readPlanOf t ≡ accepted p) where
       }
 
   -- whatever a call does to a fit state, it shows a line of the campaign, or none
-  pub shows : {m m' : State} {c : Call} {a : Answer} → Fit C m → Does C m c a m' → Shown (p .ports) (lineOf a) (m .panel) (m' .panel)
+  pub shows : {m m' : State} {c : Call} {a : Answer} → Fit C m → Does C m c a m' → Shown (p .ports) (answerLine a) (m .panel) (m' .panel)
   unfolding derangements
   shows {m} f (moves-on o os st en w) = order-shown o (m .panel) (shape-so m f o os w)
   shows {m} f (hands-out st en w) =
@@ -139,16 +115,16 @@ module _ (t : List ℕ) (p : Planned) (e : readPlanOf t ≡ accepted p) where
 -- ---- room
 
 -- a refusal has no line
-no-line : {B : Type 0} (a : Answer) (k : ℕ) (l : Line) → a ≡ refusal k → lineOf a ≡ some l → B
-no-line a k l e h = absurd (true≢false (cc (sym (ap lineOf e) ∙ h)))
+no-line : {B : Type 0} (a : Answer) (k : ℕ) (l : Line) → a ≡ refusal k → answerLine a ≡ some l → B
+no-line a k l e h = absurd (true≢false (cc (sym (ap answerLine e) ∙ h)))
 
 -- a line that a request gives fits the room (of a campaign whose answers are as long as their lines)
-pub room-enough : (C : Setting) (m : State) → Fit C m → (room : ℕ) (l : Line) → C .width ≡ width → lineOf (answer C (request room) m) ≡ some l
+pub room-enough : (C : Setting) (m : State) → Fit C m → (room : ℕ) (l : Line) → C .width ≡ width → answerLine (answer C (request room) m) ≡ some l
     → length (lineText l) ≤ room
 room-enough C m f room l w h =
     either (test (m .standing)) (λ st. no-line (answer C (request room) m) 13 l (refused-so C m (markStands f st)) h) (λ st.
     either (below? room (C .width (offer C m))) (λ less. no-line (answer C (request room) m) 2 l (refused-so C m (noRoom f st less)) h) (λ enough.
     let given : answer C (request room) m ≡ offer C m = served C m room f st enough in
     let long : C .width (offer C m) ≡ length (lineText l) =
-    ap (λ g. g (offer C m)) w ∙ ap length (text-by (offer C m) ∙ ap textOf (ap lineOf (sym given) ∙ h)) in
+    ap (λ g. g (offer C m)) w ∙ ap (λ o. length (textOf o)) (ap answerLine (sym given) ∙ h) in
     omega arith))

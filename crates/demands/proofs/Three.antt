@@ -4,11 +4,10 @@
 use mathlib.Core.Path.{_≡_, sym, ap, subst, _∙_}
 use mathlib.Core.Bool.{true}
 use mathlib.Core.List.{List, [], _∷_, map}
-use Prim.Native.Nat.{ℕ, suc, _≤_, _<_}
+use Prim.Native.Nat.{ℕ, suc, _<_}
 use native.Mathlib.Omega.{arith}
 use lib.ListN.{length}
 use Rattle.listing.specs.Count.{count}
-use Rattle.listing.proofs.Numbers.{from-two}
 use Rattle.words.specs.Told.{accepted}
 use Rattle.promise.specs.Plan.{Leg, legAt, Lawful, Circuit, Accepted}
 use Rattle.promise.specs.Campaign.{Setting, first}
@@ -17,7 +16,7 @@ use Rattle.promise.specs.Demand.{Demanded, Demand, FullCircuit}
 use Rattle.promise.specs.Derangements.{derangements}
 use Rattle.promise.proofs.Promise.{promise}
 use Rattle.promise.proofs.Circuit.{circuit-accepts, full-circuit}
-use Rattle.promise.proofs.Derangements as model
+use Rattle.promise.proofs.Derangements.{lawful-on, circuit-on}
 use Rattle.plans.specs.Grammar.{Planned, Fits}
 use Rattle.plans.specs.Calls.{device, readPlanOf}
 use Rattle.plans.proofs.Plans.{each-fits}
@@ -26,16 +25,6 @@ use Rattle.campaign.specs.Calls.{begunOf}
 use Rattle.demands.specs.Code.{campaignOf, Called, callOf, turnsOf, leftAfter}
 use Rattle.demands.proofs.Begun.{plan-fits, begun-fit, begun-setting, begun-first, begun-room}
 use Rattle.demands.proofs.Kept.{Kept, Left, turns-model, left-so}
-
--- ---- the list of n ports
-
--- it is a lawful family
-lawful-on : (n : ℕ) → 2 ≤ n → Lawful (derangements n)
-lawful-on n h = from-two (λ n. Lawful (derangements n)) model.lawful n h
-
--- and a circuit of all derangements
-circuit-on : (n : ℕ) → 2 ≤ n → Circuit (derangements n)
-circuit-on n h = from-two (λ n. Circuit (derangements n)) model.circuit n h
 
 -- ---- an accepted plan
 

@@ -9,25 +9,18 @@ use lib.ListN.{length, drop}
 use Rattle.listing.specs.Limits.{mostPorts, largest64}
 use Rattle.listing.specs.Listing.{at}
 use Rattle.words.specs.Told.{Told, accepted, refused}
-use Rattle.words.specs.Meaning.{orderOf, orderFrom}
+use Rattle.words.specs.Meaning.{orderOf}
 use Rattle.words.specs.declared.Line.{Line}
 use Rattle.words.specs.declared.Line.the-variants.{Movement, Mark, End}
 use Rattle.lines.specs.Format.{lineText}
 use Rattle.lines.specs.Reading.{readOf}
 use Rattle.panel.specs.Calls.{carryOf, carryBytes}
-use Rattle.promise.specs.Campaign.{Answer, movement, mark, theEnd, taken, refusal, request, report}
+use Rattle.promise.specs.Campaign.{mark, taken, request, report}
 use Rattle.promise.specs.Bench.{Act, moves, meets, inFront}
+use Rattle.fitness.specs.State.{answerLine}
 use Rattle.fitness.specs.declared.State.{State}
 use Rattle.campaign.specs.Calls.{answerOf, leftOf, bytesOf}
 use Rattle.demands.specs.Code.{Called, asks, tells}
-
--- the line of an answer: a refusal has none
-abbrev pub lineOf : Answer → Option Line
-lineOf (movement o) = some (Movement (orderFrom o))
-lineOf (mark k r) = some (Mark k r)
-lineOf (theEnd k) = some (End k)
-lineOf taken = none
-lineOf (refusal k) = none
 
 -- ---- what the robot does
 
@@ -74,7 +67,7 @@ Asked n (some l) buf bytes q = Obeys n l buf bytes q
 unfoldable pub RobotMeets : ℕ → List ℕ → List Called → State → Type 0
 RobotMeets n q [] s = Unit {0}
 RobotMeets n q (asks buf ∷ cs) s =
-    let l = lineOf (answerOf (request (length buf)) s) in
+    let l = answerLine (answerOf (request (length buf)) s) in
     Asked n l buf (bytesOf s buf) q × RobotMeets n (panelAfter l (bytesOf s buf) q) cs (leftOf (request (length buf)) s)
 RobotMeets n q (tells kind ∷ cs) s = RobotMeets n q cs (leftOf (report kind) s)
 
@@ -97,5 +90,5 @@ askedActs (some l) bytes xs = seenActs (seen bytes) xs
 -- of any calls: the orders and marks that it reads, and the reports that were taken
 unfoldable pub robotActs : List Called → State → List Act
 robotActs [] s = []
-robotActs (asks buf ∷ cs) s = askedActs (lineOf (answerOf (request (length buf)) s)) (bytesOf s buf) (robotActs cs (leftOf (request (length buf)) s))
+robotActs (asks buf ∷ cs) s = askedActs (answerLine (answerOf (request (length buf)) s)) (bytesOf s buf) (robotActs cs (leftOf (request (length buf)) s))
 robotActs (tells kind ∷ cs) s = inFront (report kind) (answerOf (report kind) s) (robotActs cs (leftOf (report kind) s))

@@ -8,10 +8,9 @@ use Prim.Native.Nat.{ℕ, _≤_, _<_}
 use native.Mathlib.Omega.{arith}
 use Rattle.words.specs.Told.{accepted}
 use Rattle.texts.specs.Parts.{newline, firstOf}
-use Rattle.texts.proofs.Cuts.{first-none, first-append}
+use Rattle.texts.proofs.Cuts.{digits-clear, first-append}
 use Rattle.decimals.specs.Decimal.{digitsOf}
 use Rattle.decimals.specs.Signed.{Signed, ahead, behind, magnitude, Proper, minus, signedDigits}
-use Rattle.decimals.proofs.Shape.{digits-decimal}
 use Rattle.decimals.proofs.Limits.{number-up-to, digits-up-to}
 use Rattle.decimals.proofs.Signed.{signed-of-digits, digits-of-signed}
 use Rattle.fields.specs.Field.{fieldText, Got, fieldIn, unsigned, signed}
@@ -19,13 +18,10 @@ use Rattle.fields.proofs.OneLine.{field-accepted, field-text}
 
 -- ---- numbers have no newline
 
-clear-digits : (n : ℕ) → firstOf newline (digitsOf n) ≡ none
-clear-digits n = first-none newline (digitsOf n) (λ j h e. let d = digits-decimal n .digits j h in omega arith)
-
 clear-signed : (s : Signed) → firstOf newline (signedDigits s) ≡ none
 unfolding firstOf
-clear-signed (ahead n) = clear-digits n
-clear-signed (behind n) = first-append newline (minus ∷ []) (digitsOf n) refl (clear-digits n)
+clear-signed (ahead n) = digits-clear newline n (omega arith)
+clear-signed (behind n) = first-append newline (minus ∷ []) (digitsOf n) refl (digits-clear newline n (omega arith))
 
 -- ---- a line with a number, and one with a signed number
 
@@ -33,7 +29,7 @@ module _ (largest : ℕ) (key : List ℕ) (low below k line : ℕ) where
   pub number-text : (n : ℕ) (rest : List ℕ) → firstOf newline key ≡ none → n ≤ largest → low ≤ n → n < below
       → fieldIn (unsigned largest key low below k) line (fieldText key (digitsOf n) ++ rest) ≡ accepted (record { value = n; rest = rest })
   number-text n rest clear h l b =
-      field-text (unsigned largest key low below k) line (digitsOf n) rest n (first-append newline key (digitsOf n) clear (clear-digits n))
+      field-text (unsigned largest key low below k) line (digitsOf n) rest n (first-append newline key (digitsOf n) clear (digits-clear newline n (omega arith)))
       (number-up-to largest n h) l b
 
   pub number-accepted : (t : List ℕ) (g : Got ℕ) → fieldIn (unsigned largest key low below k) line t ≡ accepted g

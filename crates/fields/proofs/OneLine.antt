@@ -4,23 +4,18 @@
 use mathlib.Core.Path.{_≡_, refl, sym, ap, _∙_}
 use mathlib.Core.Bool.{Bool, true, false, true≢false}
 use mathlib.Core.List.{List, _∷_, _++_}
-use mathlib.Core.Option.{Option, none, some}
+use mathlib.Core.Option.{none, some}
 use Prim.Native.Nat.{ℕ, _≤_, _<_}
 use lib.Seq.{append-snoc}
-use Rattle.words.specs.Told.{accepted}
-use Rattle.words.proofs.Told.{accepted-once, then-accepted}
+use Rattle.words.specs.Told.{accepted, atLine, need}
+use Rattle.words.proofs.Told.{accepted-once, need-accepted, then-accepted}
 use Rattle.texts.specs.Parts.{newline, firstOf, Parts, cut, after}
 use Rattle.texts.proofs.Cuts.{cut-joined, cut-parts}
 use Rattle.texts.proofs.Keys.{after-key, key-after}
-use Rattle.fields.specs.Field.{fieldText, need, passed, lineIn, between, Field, Got, fieldIn}
+use Rattle.fields.specs.Field.{fieldText, passed, lineIn, between, Field, Got, fieldIn}
 use Rattle.fields.proofs.Lines.{good-value, value-good}
 
 -- ---- accepted steps
-
--- what has to be there is there
-pub need-accepted : {A : Type 0} (k line : ℕ) (o : Option A) (a : A) → need k line o ≡ accepted a → o ≡ some a
-need-accepted k line none a e = absurd (true≢false (cc))
-need-accepted k line (some x) a e = cc
 
 -- what has to pass passes
 pub passed-accepted : {A : Type 0} (k line : ℕ) (t : Bool) (x a : A) → passed k line t x ≡ accepted a → (t ≡ true) × (x ≡ a)
@@ -46,11 +41,11 @@ module _ {A : Type 0} (f : Field A) (line : ℕ) where
   line-accepted : (t : List ℕ) (p : Parts) → lineIn (f .key) line t ≡ accepted p → t ≡ fieldText (f .key) (p .front) ++ p .rest
   unfolding lineIn
   line-accepted t p e =
-      let b = then-accepted (need 11 line (cut newline t)) _ p e in
+      let b = then-accepted (need 11 (atLine line) (cut newline t)) _ p e in
       let q = b .first in
-      let c = cut-parts newline t q (need-accepted 11 line (cut newline t) q (b .taken)) in
-      let k = then-accepted (need 7 line (after (f .key) (q .front))) _ p (b .on) in
-      let v = key-after (f .key) (q .front) (k .first) (need-accepted 7 line (after (f .key) (q .front)) (k .first) (k .taken)) in
+      let c = cut-parts newline t q (need-accepted 11 (atLine line) (cut newline t) q (b .taken)) in
+      let k = then-accepted (need 7 (atLine line) (after (f .key) (q .front))) _ p (b .on) in
+      let v = key-after (f .key) (q .front) (k .first) (need-accepted 7 (atLine line) (after (f .key) (q .front)) (k .first) (k .taken)) in
       let g : record { front = k .first; rest = q .rest } ≡ p = accepted-once (k .on) in
       c .whole
       ∙ ap (λ s. s ++ (newline ∷ q .rest)) v
@@ -63,14 +58,14 @@ module _ {A : Type 0} (f : Field A) (line : ℕ) where
   field-accepted t g e =
       let b = then-accepted (lineIn (f .key) line t) _ g e in
       let p = b .first in
-      let n = then-accepted (need 8 line (f .number (p .front))) _ g (b .on) in
+      let n = then-accepted (need 8 (atLine line) (f .number (p .front))) _ g (b .on) in
       let v = passed-accepted (f .refusal) line (between (f .low) (f .below) (f .size (n .first))) _ g (n .on) in
       let r = value-good (f .low) (f .below) (f .size (n .first)) (v .0) in
       rw (sym (v .1))
       (record {
         value = p .front;
         whole = line-accepted t p (b .taken);
-        number = need-accepted 8 line (f .number (p .front)) (n .first) (n .taken);
+        number = need-accepted 8 (atLine line) (f .number (p .front)) (n .first) (n .taken);
         low = r .0;
         below = r .1;
       })

@@ -4,9 +4,9 @@
 use Prim.Native.Nat.{ℕ}
 use mathlib.Core.Bool.{Bool, cond, _&&_}
 use mathlib.Core.List.{List, [], _∷_, _++_}
-use mathlib.Core.Option.{Option, none, some}
+use mathlib.Core.Option.{Option}
 use lib.Dec.{leb, ltb}
-use Rattle.words.specs.Told.{Told, accepted, refused, atLine, then}
+use Rattle.words.specs.Told.{Told, accepted, refused, atLine, then, need}
 use Rattle.texts.specs.Parts.{newline, Parts, cut, after}
 use Rattle.decimals.specs.Decimal.{numberUpTo}
 use Rattle.decimals.specs.Signed.{Signed, magnitude, signedUpTo}
@@ -15,11 +15,6 @@ use Rattle.decimals.specs.Signed.{Signed, magnitude, signedUpTo}
 abbrev pub fieldText : List ℕ → List ℕ → List ℕ
 fieldText key value = (key ++ value) ++ (newline ∷ [])
 
--- what has to be there; if it is not, refusal k at the line
-abbrev pub need : {A : Type 0} → ℕ → ℕ → Option A → Told A
-need k line none = refused k (atLine line)
-need k line (some a) = accepted a
-
 -- what has to pass a test; if it does not, refusal k at the line
 abbrev pub passed : {A : Type 0} → ℕ → ℕ → Bool → A → Told A
 passed k line test a = cond test (accepted a) (refused k (atLine line))
@@ -27,7 +22,7 @@ passed k line test a = cond test (accepted a) (refused k (atLine line))
 -- a line at the front of a text: the text of its value, and the text after it. 'newline present (11), key with its = (7)'
 unfoldable pub lineIn : List ℕ → ℕ → List ℕ → Told Parts
 lineIn key line t =
-    then (need 11 line (cut newline t)) (λ p. then (need 7 line (after key (p .front))) (λ v. accepted (record { front = v; rest = p .rest })))
+    then (need 11 (atLine line) (cut newline t)) (λ p. then (need 7 (atLine line) (after key (p .front))) (λ v. accepted (record { front = v; rest = p .rest })))
 
 -- whether a number is one from low on and below `below`
 unfoldable pub between : ℕ → ℕ → ℕ → Bool
@@ -51,7 +46,7 @@ pub record Got (A : Type 0) : Type 0 where
 unfoldable pub fieldIn : {A : Type 0} → Field A → ℕ → List ℕ → Told (Got A)
 fieldIn f line t =
     then (lineIn (f .key) line t)
-    (λ p. then (need 8 line (f .number (p .front)))
+    (λ p. then (need 8 (atLine line) (f .number (p .front)))
     (λ a. passed (f .refusal) line (between (f .low) (f .below) (f .size a)) (record { value = a; rest = p .rest })))
 
 -- a line with a number, and a line with a signed number

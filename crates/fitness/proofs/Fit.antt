@@ -1,6 +1,6 @@
--- Refusal 15 is exact: the test tells the sentence (`tells-fit`). And what a stand says of the state (`stood`).
+-- Refusal 15 is exact: the test tells the sentence (`tells-fit`). And what a stand says of the state (`stands`).
 -- Assumes nothing.
-use mathlib.Core.Path.{_≡_, refl, sym}
+use mathlib.Core.Path.{_≡_, refl, sym, subst}
 use mathlib.Core.Bool.{Bool, true, false, cond, and-eq-true-iff, true≢false}
 use mathlib.Core.List.{List, [], _∷_}
 use mathlib.Core.Option.{Option, none, some}
@@ -56,28 +56,35 @@ moment-fit s e = promise-proofs.tells-fit (settingOf s) (momentOf s) .0 (fit-par
 pub fit-inside : (s : State) → fit s ≡ true → InPlan s
 fit-inside s e = let f = moment-fit s e in record { places = fit-parts s e .0; leg = f .leg; step = f .step }
 
--- the stand of a state, with what it says
-pub data Stood (s : State) : Stand → Type 0 where
-  is-unfit : fit s ≡ false → Stood s unfit
-  is-mark : fit s ≡ true → s .standing ≡ true → Stood s atMark
-  is-end : fit s ≡ true → s .standing ≡ false → s .ended ≡ true → Stood s atEnd
-  is-clear : fit s ≡ true → s .standing ≡ false → s .ended ≡ false → todo (settingOf s) (momentOf s) ≡ some [] → Stood s clear
-  is-next : (o : Order) (os : List Order) → fit s ≡ true → s .standing ≡ false → s .ended ≡ false
-      → todo (settingOf s) (momentOf s) ≡ some (o ∷ os) → Stood s (next o)
+-- an order is to come, and others after it
+pub record Coming (s : State) (o : Order) : Type 0 where
+  pub fits : fit s ≡ true
+  pub none : s .standing ≡ false
+  pub going : s .ended ≡ false
+  pub others : List Order
+  pub orders : todo (settingOf s) (momentOf s) ≡ some (o ∷ others)
 
-pub stood : (s : State) → Stood s (standOf s)
+-- what each stand says of the state
+abbrev pub Stood : State → Stand → Type 0
+Stood s unfit = fit s ≡ false
+Stood s atMark = (fit s ≡ true) × (s .standing ≡ true)
+Stood s atEnd = (fit s ≡ true) × (s .standing ≡ false) × (s .ended ≡ true)
+Stood s clear = (fit s ≡ true) × (s .standing ≡ false) × (s .ended ≡ false) × (todo (settingOf s) (momentOf s) ≡ some [])
+Stood s (next o) = Coming s o
+
+stood : (s : State) → Stood s (standOf s)
 unfolding standOf panelStand
 stood s = by (fit s) refl
   where
     by-way : (t : Option (List Order)) (vs : List Order) → fit s ≡ true → s .standing ≡ false → s .ended ≡ false → todo (settingOf s) (momentOf s) ≡ t
         → t ≡ some vs → Stood s (wayStand (nextOf t))
     by-way none vs e st en w h = absurd (true≢false (cc))
-    by-way (some []) vs e st en w h = is-clear e st en w
-    by-way (some (o ∷ os)) vs e st en w h = is-next o os e st en w
+    by-way (some []) vs e st en w h = (e, st, en, w)
+    by-way (some (o ∷ os)) vs e st en w h = record { fits = e; none = st; going = en; others = os; orders = w }
 
     by-end : (b sm : Bool) → fit s ≡ true → s .standing ≡ false → s .ended ≡ b → (b ≡ true → sm ≡ true)
         → Stood s (cond b (cond sm atEnd unfit) (wayStand (nextOf (todo (settingOf s) (momentOf s)))))
-    by-end true true e st en h = is-end e st en
+    by-end true true e st en h = (e, st, en)
     by-end true false e st en h = absurd (true≢false (sym (h refl)))
     by-end false sm e st en h =
         let f = moment-fit s e in
@@ -86,7 +93,7 @@ stood s = by (fit s) refl
 
     by-mark : (b sm : Bool) → fit s ≡ true → s .standing ≡ b → (b ≡ true → sm ≡ true) → (s .ended ≡ true → sm ≡ true)
         → Stood s (cond b (cond sm atMark unfit) (cond (s .ended) (cond sm atEnd unfit) (wayStand (nextOf (todo (settingOf s) (momentOf s))))))
-    by-mark true true e st h k = is-mark e st
+    by-mark true true e st h k = (e, st)
     by-mark true false e st h k = absurd (true≢false (sym (h refl)))
     by-mark false sm e st h k = by-end (s .ended) sm e st refl k
 
@@ -95,4 +102,8 @@ stood s = by (fit s) refl
         let f = moment-fit s e in
         let sm = same (momentOf s .panel) (wanted (settingOf s) (momentOf s)) in
         by-mark (s .standing) sm e refl (λ st. tells-same _ _ .1 (f .atMark st)) (λ en. tells-same _ _ .1 (f .atEnd en))
-    by false e = is-unfit e
+    by false e = e
+
+-- so of a stand that a state is found at
+pub stands : (s : State) (x : Stand) → x ≡ standOf s → Stood s x
+stands s x e = subst (Stood s) (sym e) (stood s)

@@ -2,8 +2,10 @@
 -- Assumes nothing.
 use Prim.Native.Nat.{ℕ}
 use mathlib.Core.List.{List, [], _++_}
+use mathlib.Core.Option.{Option, none, some}
 use lib.ListN.{length, take, drop}
 use Rattle.words.specs.Meaning.{orderFrom}
+use Rattle.words.specs.declared.Line.{Line}
 use Rattle.words.specs.declared.Line.the-variants.{Movement, Mark, End}
 use Rattle.promise.specs.Campaign as model
 use Rattle.promise.specs.Campaign.{movement, mark, theEnd, taken, refusal}
@@ -12,13 +14,22 @@ use Rattle.lines.specs.Format.{lineText}
 use Rattle.legs.specs.Rules.{legsOf}
 use Rattle.fitness.specs.declared.State.{State}
 
--- the text that an answer writes: its line; a report and a refusal write nothing
+-- the line of an answer: a report that is taken and a refusal have none
+abbrev pub answerLine : model.Answer → Option Line
+answerLine (movement o) = some (Movement (orderFrom o))
+answerLine (mark k r) = some (Mark k r)
+answerLine (theEnd k) = some (End k)
+answerLine taken = none
+answerLine (refusal k) = none
+
+-- its text; nothing where there is no line
+abbrev pub textOf : Option Line → List ℕ
+textOf none = []
+textOf (some l) = lineText l
+
+-- the text that an answer writes
 abbrev pub answerText : model.Answer → List ℕ
-answerText (movement o) = lineText (Movement (orderFrom o))
-answerText (mark k r) = lineText (Mark k r)
-answerText (theEnd k) = lineText (End k)
-answerText taken = []
-answerText (refusal k) = []
+answerText a = textOf (answerLine a)
 
 -- how long it is
 abbrev pub width : model.Answer → ℕ

@@ -12,9 +12,9 @@ use Rattle.promise.specs.Plan.{Leg, legAt, marks, number}
 use Rattle.listing.specs.Count.{count}
 use Rattle.listing.specs.Limits.{mostLegs, largest64}
 use Rattle.listing.proofs.Limits.{count-most}
-use Rattle.plans.specs.Grammar.{EachFits}
 use Rattle.plans.specs.Calls.{device}
 use Rattle.plans.specs.declared.Plan.{Plan}
+use Rattle.plans.proofs.Longest.{marks-few}
 use Rattle.legs.specs.Rules.{legsOf, Ruled}
 
 -- one leg more
@@ -44,14 +44,7 @@ number-before (l ∷ ls) (suc i) k h = omega (arith, number-before ls i k (omega
 pub marks-all : (ls : List Leg) (i : ℕ) → i ≡ length ls → marks (take i ls) ≡ marks ls
 marks-all ls i e = ap (λ j. marks (take j ls)) e ∙ ap marks (take-length ls)
 
--- the first i legs have at most i times as many marks as there are ranks
-pub marks-few : (size : ℕ) (ls : List Leg) → EachFits size ls → (i : ℕ) → marks (take i ls) ≤ i * size
-unfolding marks
-marks-few size ls fits zero = omega arith
-marks-few size [] fits (suc i) = omega arith
-marks-few size (l ∷ ls) fits (suc i) = omega (arith, fits .0 .run, marks-few size ls (fits .1) i)
-
--- so they fit 64 bits on the device
+-- they fit 64 bits on the device
 pub marks-fit : (p : Plan) → Ruled device p → (i : ℕ) → i ≤ mostLegs → marks (take i (legsOf p)) ≤ largest64
 marks-fit p R i h =
     let few : marks (take i (legsOf p)) ≤ i * count (p .ports) = marks-few (count (p .ports)) (legsOf p) (R .fits .each) i in

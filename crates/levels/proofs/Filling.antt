@@ -16,7 +16,7 @@ entry-front n p zero h = absurd (omega arith)
 entry-front n p (suc j) h = let e : suc j - 1 ≡ j = omega arith in rw e (sym (getD-take n p j 0 (omega arith)))
 
 -- one jack more of a tabulated panel
-tabulate-more : (n : ℕ) (g : ℕ → ℕ) → tabulate (suc n) g ≡ tabulate n g ++ (g (suc n) ∷ [])
+pub tabulate-more : (n : ℕ) (g : ℕ → ℕ) → tabulate (suc n) g ≡ tabulate n g ++ (g (suc n) ∷ [])
 unfolding tabulate
 tabulate-more zero g = refl
 tabulate-more (suc n) g = ap (λ (p : List ℕ). g 1 ∷ p) (tabulate-more n (λ j. g (suc j)))

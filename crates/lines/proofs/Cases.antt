@@ -13,7 +13,8 @@ use Rattle.words.specs.declared.Line.the-variants.{Movement, Mark, End}
 use Rattle.decimals.specs.Decimal.{digitIn, onward, numberIn, upTo}
 use Rattle.decimals.proofs.Cases.{allButOne}
 use Rattle.texts.specs.Parts.{newline, comma, firstOf, begins}
-use Rattle.lines.specs.Format.{swapping, turning, marking, ending, key, jack}
+use Rattle.words.specs.Meaning.{jackAt}
+use Rattle.lines.specs.Format.{swapping, turning, marking, ending, key}
 use Rattle.lines.specs.Reading.{numberBefore, numbersIn, fitting, numbersTold, lineIn, readOf}
 
 -- `18446744073709551615`
@@ -27,10 +28,10 @@ pub record Case : Type 0 where
   pub told : Told (Line × ℕ)
 
 abbrev pub swap : ℕ → ℕ → Line
-swap a b = Movement (Swap (jack a) (jack b))
+swap a b = Movement (Swap (jackAt a) (jackAt b))
 
 abbrev pub turn : ℕ → ℕ → ℕ → Line
-turn a b c = Movement (Turn (jack a) (jack b) (jack c))
+turn a b c = Movement (Turn (jackAt a) (jackAt b) (jackAt c))
 
 abbrev pub cases : List Case
 cases =

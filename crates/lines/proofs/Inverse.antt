@@ -13,7 +13,7 @@ use lib.ListN.{length, drop, length-append, length-drop, drop-of-length-le}
 use lib.Seq.{append-snoc, drop-append-seam, drop-drop}
 use Rattle.listing.proofs.Numbers.{either}
 use Rattle.words.specs.Shape.{lineFits}
-use Rattle.words.specs.Told.{Told, accepted, refused, nowhere, then}
+use Rattle.words.specs.Told.{Told, accepted, refused, nowhere, then, need}
 use Rattle.words.specs.declared.Order.the-variants.{Swap, Turn}
 use Rattle.words.specs.declared.Line.{Line}
 use Rattle.words.specs.declared.Line.the-variants.{Movement, Mark, End}
@@ -23,11 +23,10 @@ use Rattle.texts.proofs.Cuts.{first-append, cut-joined, cut-parts}
 use Rattle.texts.proofs.Keys.{key-after}
 use Rattle.lines.specs.Format.{Kind, swapping, turning, marking, ending, key, commas, Numbers, AllUpTo, listed}
 use Rattle.lines.specs.Format.{kindOf, numbersOf, lineOf, keyText, unended, lineText}
-use Rattle.lines.specs.Reading.{numbersIn, Proper, fitting, orRefused, numbersTold, keyed, lineIn, readOf}
+use Rattle.lines.specs.Reading.{numbersIn, Proper, fitting, numbersTold, keyed, lineIn, readOf}
 use Rattle.lines.specs.Campaign.{OfCampaign}
 use Rattle.lines.proofs.Listed.{listed-clear, numbers-of-listed, listed-of-numbers}
-use Rattle.words.proofs.Told.{not-both, accepted-once, then-accepted}
-use Rattle.lines.proofs.Told.{there}
+use Rattle.words.proofs.Told.{not-both, accepted-once, need-accepted, then-accepted}
 
 -- ---- shape
 
@@ -105,7 +104,7 @@ module _ (most jacks : ℕ) where
   unended-read l p =
       let k = kindOf l in
       line-keyed k (listed (commas k) (numbersOf l))
-      ∙ ap (λ o. then (orRefused 8 o) (λ x. fitting jacks (lineOf k x))) (numbers-of-listed most (commas k) (numbersOf l) (p .numbers))
+      ∙ ap (λ o. then (need 8 nowhere o) (λ x. fitting jacks (lineOf k x))) (numbers-of-listed most (commas k) (numbersOf l) (p .numbers))
       ∙ ap (fitting jacks) (line-of-numbers l)
       ∙ rw (fits-passes jacks l (p .fits))
 
@@ -138,9 +137,9 @@ module _ (most jacks : ℕ) where
   read-unended t l e =
       let y = line-kind t l e in
       let k = y .kind in
-      let c = then-accepted (orRefused 8 (numbersIn most (commas k) (y .rest))) (λ x. fitting jacks (lineOf k x)) l (y .told) in
+      let c = then-accepted (need 8 nowhere (numbersIn most (commas k) (y .rest))) (λ x. fitting jacks (lineOf k x)) l (y .told) in
       let x = c .first in
-      let n = listed-of-numbers most (commas k) (y .rest) x (there 8 (numbersIn most (commas k) (y .rest)) x (c .taken)) in
+      let n = listed-of-numbers most (commas k) (y .rest) x (need-accepted 8 nowhere (numbersIn most (commas k) (y .rest)) x (c .taken)) in
       let f = fitting-accepted jacks (lineOf k x) l (c .on) in
       subst (λ m. (t ≡ unended m) × Proper most jacks m) (f .1) (
         y .whole ∙ ap (λ v. key k ++ v) (n .0) ∙ sym (unended-of-line k x),
@@ -160,7 +159,7 @@ module _ (most jacks : ℕ) where
       let parts : cut newline (drop (length before) (before ++ (lineText l ++ later))) ≡ some (record { front = b; rest = later }) =
       ap (cut newline) at ∙ cut-joined newline b later (unended-clear l) in
       ap
-      (λ o. then (orRefused 11 o) (λ q. then (lineIn most jacks (q .front)) (λ m. accepted (m, length before + length (q .front) + 1)))) parts
+      (λ o. then (need 11 nowhere o) (λ q. then (lineIn most jacks (q .front)) (λ m. accepted (m, length before + length (q .front) + 1)))) parts
       ∙ ap (λ r. then r (λ m. accepted (m, length before + length b + 1))) (unended-read l p)
       ∙ ap (λ n. accepted (l, n)) (omega (arith, text-length l))
 
@@ -175,10 +174,10 @@ module _ (most jacks : ℕ) where
   pub written-read : (t : List ℕ) (place : ℕ) (l : Line) (next : ℕ) → readOf most jacks t place ≡ accepted (l, next) → Found t place l next
   unfolding readOf
   written-read t place l next e =
-      let c = then-accepted (orRefused 11 (cut newline (drop place t)))
+      let c = then-accepted (need 11 nowhere (cut newline (drop place t)))
       (λ p. then (lineIn most jacks (p .front)) (λ m. accepted (m, place + length (p .front) + 1))) (l, next) e in
       let p = c .first in
-      let w = cut-parts newline (drop place t) p (there 11 (cut newline (drop place t)) p (c .taken)) .whole in
+      let w = cut-parts newline (drop place t) p (need-accepted 11 nowhere (cut newline (drop place t)) p (c .taken)) .whole in
       let d = then-accepted (lineIn most jacks (p .front)) (λ m. accepted (m, place + length (p .front) + 1)) (l, next) (c .on) in
       let is : d .first ≡ l = ap (λ q. q .0) (accepted-once (d .on)) in
       let to : place + length (p .front) + 1 ≡ next = ap (λ q. q .1) (accepted-once (d .on)) in

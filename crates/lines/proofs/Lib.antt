@@ -1,5 +1,4 @@
 pub mod Listed
-pub mod Told
 pub mod Inverse
 pub mod Written
 pub mod Longest

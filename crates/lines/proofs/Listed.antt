@@ -4,21 +4,16 @@
 use mathlib.Core.Path.{_≡_, refl, ap, _∙_, subst}
 use mathlib.Core.List.{List, [], _∷_, _++_}
 use mathlib.Core.Option.{none, some, Option·map, bind, bind-eq-some-iff, map-eq-some-iff}
-use Prim.Native.Nat.{ℕ, zero, suc, _≤_, _<_}
+use Prim.Native.Nat.{ℕ, zero, suc, _≤_}
 use native.Mathlib.Omega.{arith}
 use Rattle.decimals.specs.Decimal.{digitsOf, numberUpTo}
 use Rattle.decimals.proofs.Limits.{number-up-to, digits-up-to}
-use Rattle.decimals.proofs.Shape.{digits-decimal}
 use Rattle.texts.specs.Parts.{newline, comma, firstOf, cut}
-use Rattle.texts.proofs.Cuts.{first-none, first-append, cut-joined, cut-parts}
+use Rattle.texts.proofs.Cuts.{digits-clear, first-append, cut-joined, cut-parts}
 use Rattle.lines.specs.Format.{Numbers, AllUpTo, listed}
 use Rattle.lines.specs.Reading.{numberBefore, numbersIn}
 
 -- ---- bytes that are not there
-
--- no byte below `0` is in a number's text
-pub digits-clear : (b n : ℕ) → b < 48 → firstOf b (digitsOf n) ≡ none
-digits-clear b n h = first-none b (digitsOf n) (λ j l e. omega (arith, digits-decimal n .digits j l))
 
 -- no newline is in the text of numbers with commas
 pub listed-clear : (k : ℕ) (x : Numbers k) → firstOf newline (listed k x) ≡ none

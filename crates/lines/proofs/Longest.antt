@@ -2,7 +2,7 @@
 -- Assumes nothing.
 use mathlib.Core.Path.{_≡_, refl, ap, _∙_}
 use mathlib.Core.List.{List, _∷_, _++_}
-use Prim.Native.Nat.{ℕ, suc, _+_, _≤_}
+use Prim.Native.Nat.{ℕ, suc, _+_, _≤_, _<_}
 use native.Mathlib.Omega.{arith}
 use lib.ListN.{length, length-append}
 use Rattle.listing.specs.Count.{count}
@@ -72,6 +72,21 @@ at-most-45 (End m) h = omega (arith, line-length (End m) (key ending) (listed 0 
 
 -- ---- 45 are attained
 
+-- a mark with 20 digits at a rank with 18
+pub mark-45 : (m r : ℕ) → 10000000000000000000 ≤ m → m ≤ largest64 → 100000000000000000 ≤ r → r < 1000000000000000000 → length (lineText (Mark m r)) ≡ 45
+unfolding unended keyText
+mark-45 m r long fits low high =
+    omega (
+      arith,
+      line-length (Mark m r) (key marking) (listed 1 (m, r)) refl,
+      listed-length 0 (m, r),
+      one-length r,
+      digits-64 m fits,
+      digits-above 19 m (omega arith),
+      digits-at-most 17 r (omega arith),
+      digits-above 17 r (omega arith),
+    )
+
 -- the last mark of the longest plan, at the last rank of 20 ports
 abbrev pub longest : Line
 longest = Mark 14320234099086433935 895014631192902120
@@ -82,15 +97,4 @@ longest-of-campaign = (omega arith, omega (arith, count-20))
 
 -- it has 45 bytes
 pub longest-45 : length (lineText longest) ≡ 45
-unfolding unended keyText
-longest-45 =
-    omega (
-      arith,
-      line-length longest (key marking) (listed 1 (14320234099086433935, 895014631192902120)) refl,
-      listed-length 0 (14320234099086433935, 895014631192902120),
-      one-length 895014631192902120,
-      digits-at-most 19 14320234099086433935 (omega arith),
-      digits-above 19 14320234099086433935 (omega arith),
-      digits-at-most 17 895014631192902120 (omega arith),
-      digits-above 17 895014631192902120 (omega arith),
-    )
+longest-45 = mark-45 14320234099086433935 895014631192902120 (omega arith) (omega arith) (omega arith) (omega arith)

@@ -3,7 +3,7 @@
 -- Assumes nothing.
 use Prim.Native.Nat.{ℕ, zero, suc, _≤_}
 use mathlib.Core.List.{List, [], _∷_, _++_}
-use Rattle.words.specs.declared.Jack.{Jack}
+use Rattle.words.specs.Meaning.{jackAt}
 use Rattle.words.specs.declared.Order.the-variants.{Swap, Turn}
 use Rattle.words.specs.declared.Line.{Line}
 use Rattle.words.specs.declared.Line.the-variants.{Movement, Mark, End}
@@ -66,13 +66,10 @@ numbersOf (Movement (Turn a b c)) = (a .0, (b .0, c .0))
 numbersOf (Mark m r) = (m, r)
 numbersOf (End m) = m
 
-abbrev pub jack : ℕ → Jack
-jack j = record { 0 = j }
-
 -- the line of a kind that has these numbers
 abbrev pub lineOf : (k : Kind) → Numbers (commas k) → Line
-lineOf swapping x = Movement (Swap (jack (x .0)) (jack (x .1)))
-lineOf turning x = Movement (Turn (jack (x .0)) (jack (x .1 .0)) (jack (x .1 .1)))
+lineOf swapping x = Movement (Swap (jackAt (x .0)) (jackAt (x .1)))
+lineOf turning x = Movement (Turn (jackAt (x .0)) (jackAt (x .1 .0)) (jackAt (x .1 .1)))
 lineOf marking x = Mark (x .0) (x .1)
 lineOf ending n = End n
 

@@ -6,7 +6,7 @@ use mathlib.Core.Bool.{cond}
 use mathlib.Core.List.{List}
 use mathlib.Core.Option.{Option, none, some, Option·map, bind}
 use lib.ListN.{length, drop}
-use Rattle.words.specs.Told.{Told, accepted, refused, nowhere, then}
+use Rattle.words.specs.Told.{Told, accepted, refused, nowhere, then, need}
 use Rattle.words.specs.Shape.{lineFits, LineFits}
 use Rattle.words.specs.declared.Line.{Line}
 use Rattle.decimals.specs.Decimal.{numberUpTo}
@@ -35,14 +35,9 @@ pub record Proper (most jacks : ℕ) (l : Line) : Type 0 where
 unfoldable pub fitting : ℕ → Line → Told Line
 fitting jacks l = cond (lineFits jacks l) (accepted l) (refused 17 nowhere)
 
--- what is there, or a refusal at no place
-abbrev pub orRefused : {A : Type 0} → ℕ → Option A → Told A
-orRefused k none = refused k nowhere
-orRefused k (some a) = accepted a
-
 -- 'form and count of numbers (8)': what the text after the key of a kind tells
 unfoldable pub numbersTold : ℕ → ℕ → Kind → List ℕ → Told Line
-numbersTold most jacks k v = then (orRefused 8 (numbersIn most (commas k) v)) (λ x. fitting jacks (lineOf k x))
+numbersTold most jacks k v = then (need 8 nowhere (numbersIn most (commas k) v)) (λ x. fitting jacks (lineOf k x))
 
 -- what a text tells that begins with the key of a kind, and what any other tells
 abbrev pub keyed : ℕ → ℕ → Kind → Option (List ℕ) → Told Line → Told Line
@@ -61,5 +56,5 @@ lineIn most jacks t =
 -- 'newline (11, also at or past the end of the slice)': the line that begins at a place of a text, and the place after its newline
 unfoldable pub readOf : ℕ → ℕ → List ℕ → ℕ → Told (Line × ℕ)
 readOf most jacks t place =
-    then (orRefused 11 (cut newline (drop place t)))
+    then (need 11 nowhere (cut newline (drop place t)))
     (λ p. then (lineIn most jacks (p .front)) (λ l. accepted (l, place + length (p .front) + 1)))

@@ -1,13 +1,14 @@
 -- How long the text of a plan is, and how many marks a plan has. Bounds over the limits (`text-bounded`, `marks-bounded`), at the device with 20 ports
 -- (`text-801`, `marks-most`), and one plan that attains both (`longest`).
 -- Assumes nothing.
-use mathlib.Core.Path.{_≡_, ap, _∙_}
+use mathlib.Core.Path.{_≡_, ap, subst, _∙_}
 use mathlib.Core.Bool.{Bool, true, false, cond}
 use mathlib.Core.List.{List, [], _∷_, _++_}
 use Prim.Native.Nat.{ℕ, zero, suc, _+_, _*_, _≤_, _<_}
 use native.Mathlib.Nat.{le-trans, mul-le-mul}
 use native.Mathlib.Omega.{arith}
-use lib.ListN.{length, replicate, length-append, length-replicate}
+use lib.ListN.{length, take, replicate, length-append, length-replicate}
+use lib.Seq.{take-length}
 use Rattle.listing.specs.Count.{count}
 use Rattle.listing.specs.Limits.{mostPorts, mostLegs}
 use Rattle.listing.proofs.Limits.{count-20, most-marks}
@@ -79,19 +80,17 @@ text-bounded most p h =
       legs-length (count (p .ports)) ls (h .each),
     )
 
--- legs among `size` ranks have at most `size` marks each
-legs-marks : (size : ℕ) (ls : List Leg) → EachFits size ls → marks ls ≤ length ls * size
+-- of legs among `size` ranks the first i have at most i times as many marks
+pub marks-few : (size : ℕ) (ls : List Leg) → EachFits size ls → (i : ℕ) → marks (take i ls) ≤ i * size
 unfolding marks
-legs-marks size [] h = omega arith
-legs-marks size (l ∷ ls) h =
-    let a : marks ls ≤ length ls * size = legs-marks size ls (h .1) in
-    let c : suc (length ls) * size ≡ length ls * size + size = omega arith in
-    omega (arith, h .0 .run)
+marks-few size ls fits zero = omega arith
+marks-few size [] fits (suc i) = omega arith
+marks-few size (l ∷ ls) fits (suc i) = omega (arith, fits .0 .run, marks-few size ls (fits .1) i)
 
 -- a plan that fits has at most the most legs times the count of the most ports
 pub marks-bounded : (most : Limits) (p : Planned) → Fits most p → marks (p .legs) ≤ most .legs * count (most .ports)
 marks-bounded most p h =
-    le-trans (legs-marks (count (p .ports)) (p .legs) (h .each))
+    le-trans (subst (λ ls. marks ls ≤ length (p .legs) * count (p .ports)) (take-length (p .legs)) (marks-few (count (p .ports)) (p .legs) (h .each) (length (p .legs))))
     (mul-le-mul (h .manyLegs) (count-within (p .ports) (most .ports) (omega (arith, h .fewPorts)) (h .manyPorts)))
 
 -- ---- at the device

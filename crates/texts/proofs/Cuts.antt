@@ -14,6 +14,8 @@ use lib.ListN.{length, take, drop, getD, length-append, length-take, length-drop
 use lib.Seq.{take-all, drop-cons, take-append-seam, drop-append-add}
 use borrow.Author.Tests.{eq-eqb, ne-eqb}
 use Rattle.listing.proofs.Numbers.{either, same?}
+use Rattle.decimals.specs.Decimal.{digitsOf}
+use Rattle.decimals.proofs.Shape.{digits-decimal}
 use Rattle.texts.specs.Parts.{later, firstOf, Parts, around, cut}
 
 -- ---- the first byte
@@ -50,6 +52,10 @@ first-none b (x ∷ t) h = first-later b x t (h 0 (omega arith)) ∙ ap later (f
 pub first-append : (b : ℕ) (s t : List ℕ) → firstOf b s ≡ none → firstOf b t ≡ none → firstOf b (s ++ t) ≡ none
 first-append b [] t e f = f
 first-append b (x ∷ s) t e f = let a = first-absent b x s e in first-later b x (s ++ t) (a .0) ∙ ap later (first-append b s t (a .1) f)
+
+-- no byte below `0` is in a number's text
+pub digits-clear : (b n : ℕ) → b < 48 → firstOf b (digitsOf n) ≡ none
+digits-clear b n h = first-none b (digitsOf n) (λ j l e. omega (arith, digits-decimal n .digits j l))
 
 -- the first b after a text without b
 first-seam : (b : ℕ) (s t : List ℕ) → firstOf b s ≡ none → firstOf b (s ++ (b ∷ t)) ≡ some (length s)

@@ -4,7 +4,7 @@ use mathlib.Core.Path.{_≡_, refl, sym, ap, _∙_}
 use mathlib.Core.List.{[], _∷_}
 use Prim.Native.Nat.{ℕ}
 use lib.ListN.{getD}
-use Rattle.listing.specs.Orders.{nothing, one, two}
+use Rattle.listing.specs.Orders.{swap, turn, nothing, one, two}
 use Rattle.listing.specs.Orders as list
 use Rattle.words.specs.Told.{Spot, nowhere, atJack, atLine}
 use Rattle.words.specs.Meaning.{jackAt, orderOf, orderFrom, moveOf, numberOf, spotOf, refusalOf}
@@ -39,6 +39,11 @@ place (atLine l) = AtLine l
 pub order-back : (o : Order) → orderFrom (orderOf o) ≡ o
 order-back (Swap a b) = refl
 order-back (Turn a b c) = refl
+
+-- and its numbers back
+pub order-there : (o : list.Order) → orderOf (orderFrom o) ≡ o
+order-there (swap a b) = refl
+order-there (turn a b c) = refl
 
 move-back : (v : Move) → move (moveOf v) ≡ v
 move-back Nothing = refl

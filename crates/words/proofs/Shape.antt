@@ -3,6 +3,7 @@
 use mathlib.Core.Path.{_≡_, refl}
 use mathlib.Core.Bool.{Bool, true, not, _&&_, and-eq-true-iff}
 use Prim.Native.Nat.{ℕ, _≤_, _<_}
+use native.Mathlib.Omega.{arith}
 use lib.Dec.{eqb, leb, ltb}
 use borrow.Author.Tests.{leb-true, ltb-true, eqb-false, not-true, le-leb, lt-ltb, ne-eqb}
 use Rattle.listing.specs.Numbers.{Among}
@@ -58,6 +59,11 @@ unfolding shaped
 shape-shaped n (swap a b) s = parts-rising n a b (s .0) (s .1) (s .2)
 shape-shaped n (turn a b c) s = rw (ne-eqb b c (s .5), parts-rising n a b (s .0) (s .1) (s .2), parts-rising n a c (s .0) (s .3) (s .4))
 
+-- what is in shape on some jacks is in shape on more
+pub shape-more : (n k : ℕ) (o : Order) → n ≤ k → InShape n o → InShape k o
+shape-more n k (swap a b) h s = (s .0, s .1, omega arith)
+shape-more n k (turn a b c) h s = (s .0, s .1, omega arith, s .3, omega arith, s .5)
+
 -- ---- a line
 
 -- a line that fits passes the test
@@ -71,3 +77,9 @@ pub passes-fits : (n : ℕ) (l : Line) → lineFits n l ≡ true → LineFits n 
 passes-fits n (Movement o) e = shaped-shape n (orderOf o) e
 passes-fits n (Mark m r) e = tt
 passes-fits n (End m) e = tt
+
+-- what fits some jacks fits more
+pub fits-more : (n k : ℕ) (l : Line) → n ≤ k → lineFits n l ≡ true → lineFits k l ≡ true
+fits-more n k (Movement o) h e = shape-shaped k (orderOf o) (shape-more n k (orderOf o) h (shaped-shape n (orderOf o) e))
+fits-more n k (Mark m r) h e = refl
+fits-more n k (End m) h e = refl

@@ -2,8 +2,9 @@
 -- Assumes nothing.
 use mathlib.Core.Path.{_≡_, refl}
 use mathlib.Core.Bool.{true≢false}
+use mathlib.Core.Option.{Option, none, some}
 use Prim.Native.Nat.{ℕ}
-use Rattle.words.specs.Told.{Told, Spot, accepted, refused, then}
+use Rattle.words.specs.Told.{Told, Spot, accepted, refused, then, need}
 
 -- what is refused is not accepted
 pub not-both : {A : Type 0} {k : ℕ} {s : Spot} {a : A} → refused k s ≡ accepted a → ⊥
@@ -12,6 +13,11 @@ not-both e = true≢false (cc)
 -- what is accepted is one thing
 pub accepted-once : {A : Type 0} {a b : A} → accepted a ≡ accepted b → a ≡ b
 accepted-once e = cc
+
+-- what has to be there is there
+pub need-accepted : {A : Type 0} (k : ℕ) (s : Spot) (o : Option A) (a : A) → need k s o ≡ accepted a → o ≡ some a
+need-accepted k s none a e = absurd (not-both e)
+need-accepted k s (some x) a e = cc
 
 -- a call that goes on: both it and the one before it were accepted
 pub record Both {A B : Type 0} (told : Told A) (go : A → Told B) (b : B) : Type 0 where

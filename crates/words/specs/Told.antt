@@ -2,6 +2,7 @@
 -- Assumes nothing.
 use Prim.Native.Nat.{ℕ}
 use mathlib.Core.List.{List}
+use mathlib.Core.Option.{Option, none, some}
 
 -- where a fault is: at no place that is said, at a jack of a pattern or panel, at a line of a plan (the paper, 'Refusal numbers')
 pub data Spot : Type 0 where
@@ -24,6 +25,11 @@ pub data Told (A : Type 0) : Type 0 where
 abbrev pub then : {A B : Type 0} → Told A → (A → Told B) → Told B
 then (accepted a) f = f a
 then (refused k s) f = refused k s
+
+-- what has to be there; if it is not, refusal k at a place
+abbrev pub need : {A : Type 0} → ℕ → Spot → Option A → Told A
+need k s none = refused k s
+need k s (some a) = accepted a
 
 -- the bytes that a call leaves: its own if it was accepted, those that it found if it was refused
 abbrev pub leaves : {A : Type 0} → Told A → List ℕ → List ℕ → List ℕ

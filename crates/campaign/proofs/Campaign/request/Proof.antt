@@ -7,12 +7,11 @@ use Rattle.words.specs.Shape.{lineFits}
 use Rattle.words.specs.declared.Reason.the-variants.{Unfit, MarkStands}
 use Rattle.words.proofs.Shape.{shape-shaped}
 use Rattle.promise.specs.Campaign.{request, theEnd}
-use Rattle.fitness.specs.Standing.{stanceIs, atEnd, clear, next, standOf}
-use Rattle.fitness.proofs.Fit.{fit-inside}
+use Rattle.fitness.specs.Standing.{stanceIs, unfit, atMark, atEnd, clear, next, standOf}
+use Rattle.fitness.proofs.Fit.{fit-inside, Coming, stands}
 use Rattle.fitness.proofs.Places.{Sized, few-ports, start-below}
 use Rattle.campaign.specs.Calls.{answerOf, lineIs, roomed}
 use Rattle.campaign.proofs.Asked.{unfit-answer, standing-answer, end-answer, mark-answer, order-answer, next-shaped}
-use Rattle.campaign.proofs.Stances.{Coming, stands-unfit, stands-mark, stands-end, stands-clear, stands-next}
 use Rattle.campaign.proofs.Tells.{request-refused, request-as, bytes-by, bytes-stay}
 use Rattle.campaign.proofs.Campaign.request.Statement.{statement}
 use Rattle.campaign.proofs.Campaign.request.Tie as tie
@@ -29,7 +28,7 @@ clears : (c : tie.After-enum-told4) → clear ≡ standOf (c .before .before .be
 clears c = ap stanceIs (sym (c .enum-told4 .given .1)) ∙ c .before .before .judge .ensures
 
 goes : (c : tie.After-o) → let s = c .before .before .before .before .before .args .self .state in Coming s (orderOf (c .o .given .0 .0))
-goes c = stands-next _ _ (ap stanceIs (sym (c .o .given .1)) ∙ c .before .before .judge .ensures)
+goes c = stands _ (next _) (ap stanceIs (sym (c .o .given .1)) ∙ c .before .before .judge .ensures)
 
 -- ---- what is asked of the calls
 
@@ -37,13 +36,13 @@ hand-out-requires : tie.Need-hand-out-requires
 hand-out-requires c κs =
     let e = c .before .before in
     let s = e .before .before .before .before .before in
-    (few-ports (s .args .self .state) (sized s) (fit-inside _ (stands-end _ (ends e) .0)) .1, refl)
+    (few-ports (s .args .self .state) (sized s) (fit-inside _ (stands _ atEnd (ends e) .0)) .1, refl)
 
 hand-out-requires-2 : tie.Need-hand-out-requires-2
 hand-out-requires-2 c κs =
     let e = c .before .before in
     let s = e .before .before .before .before .before in
-    (few-ports (s .args .self .state) (sized s) (fit-inside _ (stands-clear _ (clears e) .0)) .1, ap (lineFits _) (c .before .next-mark .ensures))
+    (few-ports (s .args .self .state) (sized s) (fit-inside _ (stands _ clear (clears e) .0)) .1, ap (lineFits _) (c .before .next-mark .ensures))
 
 hand-out-requires-3 : tie.Need-hand-out-requires-3
 hand-out-requires-3 c κs =
@@ -63,7 +62,7 @@ returns c =
     let s = e .before .before .before .before .before in
     let x = s .args .self .state in
     let told : answerOf (request (length (s .args .buf .now))) x ≡ _ =
-    unfit-answer _ x (stands-unfit x (ap stanceIs (sym (e .enum-told .given .1)) ∙ e .before .before .judge .ensures)) in
+    unfit-answer _ x (stands x unfit (ap stanceIs (sym (e .enum-told .given .1)) ∙ e .before .before .judge .ensures)) in
     (request-refused _ _ x _ Unfit 15 (c .refused .ensures) refl told, bytes-stay x (s .args .buf .now) 15 told)
 
 returns-2 : tie.Need-returns-2
@@ -71,7 +70,7 @@ returns-2 c =
     let e = c .before in
     let s = e .before .before .before .before .before in
     let x = s .args .self .state in
-    let f = stands-mark x (ap stanceIs (sym (e .enum-told2 .given .1)) ∙ e .before .before .judge .ensures) in
+    let f = stands x atMark (ap stanceIs (sym (e .enum-told2 .given .1)) ∙ e .before .before .judge .ensures) in
     let told : answerOf (request (length (s .args .buf .now))) x ≡ _ = standing-answer x (f .0) _ (f .1) in
     (request-refused _ _ x _ MarkStands 13 (c .refused2 .ensures) refl told, bytes-stay x (s .args .buf .now) 13 told)
 
@@ -82,7 +81,7 @@ returns-3 c =
     let e = k .before in
     let s = e .before .before .before .before .before in
     let x = s .args .self .state in
-    let f = stands-end x (ends e) in
+    let f = stands x atEnd (ends e) in
     let room = length (s .args .buf .now) in
     let told : answerOf (request room) x ≡ roomed room (theEnd (k .closed-marks .result)) =
     end-answer x (f .0) room (f .1) (f .2) ∙ ap (λ m. roomed room (theEnd m)) (sym (k .closed-marks .ensures)) in
@@ -95,7 +94,7 @@ returns-4 c =
     let e = k .before in
     let s = e .before .before .before .before .before in
     let x = s .args .self .state in
-    let f = stands-clear x (clears e) in
+    let f = stands x clear (clears e) in
     let room = length (s .args .buf .now) in
     let told : answerOf (request room) x ≡ roomed room (lineIs (k .next-mark .result)) =
     mark-answer x (f .0) room (f .1) (f .2) (f .3) ∙ ap (λ l. roomed room (lineIs l)) (sym (k .next-mark .ensures)) in
@@ -121,10 +120,10 @@ request-spec =
     (λ c. search needs)
     (λ c κs. search needs)
     (λ c. search needs)
-    (λ c κs. fit-inside _ (stands-end _ (ends c) .0))
+    (λ c κs. fit-inside _ (stands _ atEnd (ends c) .0))
     hand-out-requires
     (λ c. search needs)
-    (λ c κs. fit-inside _ (stands-clear _ (clears c) .0))
+    (λ c κs. fit-inside _ (stands _ clear (clears c) .0))
     hand-out-requires-2
     (λ c. search needs)
     hand-out-requires-3
