@@ -26,7 +26,7 @@ pub struct Spelled {
 }
 
 // A text and a part after it.
-fn and_part(s: Spelled, part: &[u8]) -> Spelled
+pub fn and_part(s: Spelled, part: &[u8]) -> Spelled
     requires { ⌜ s .len + length (now part) ≤ 47 ⌝ }
     ensures { λ r. ⌜ Grown s (now (part .entry)) r ⌝ }
 {
@@ -45,7 +45,7 @@ fn and_part(s: Spelled, part: &[u8]) -> Spelled
 }
 
 // A text and a number after it.
-fn and_number(s: Spelled, n: u64) -> Spelled
+pub fn and_number(s: Spelled, n: u64) -> Spelled
     requires { ⌜ s .len + length (digitsOf n) ≤ 47 ⌝ }
     ensures { λ r. ⌜ Grown s (digitsOf n) r ⌝ }
 {

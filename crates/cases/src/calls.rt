@@ -1,0 +1,77 @@
+// The cases of the paper's 'To run'.
+use crate::says;
+use crate::says::Told;
+use campaign::Campaign;
+use checks::answers::Checked;
+use checks::checking::check;
+use patterns::answers::Counted;
+use patterns::counting::count;
+use plans::Judged;
+
+fn checked(p: &[u8]) -> Told {
+    match check(p) {
+        Checked::Sound => says::accepted(),
+        Checked::Refused(f) => says::refused(f),
+    }
+}
+
+fn planned(text: &[u8]) -> Told {
+    let begun = Campaign::begin(text);
+    let judged = begun.judged;
+    match judged {
+        Judged::Accepted => says::accepted(),
+        Judged::Refused(f) => says::refused(f),
+    }
+}
+
+fn numbered(ports: u8) -> Told {
+    match count(ports) {
+        Counted::Patterns(_) => says::accepted(),
+        Counted::Refused(f) => says::refused(f),
+    }
+}
+
+pub fn to_run() {
+    says::answered(b"pattern 1,1", checked(&[1, 1]), 5, 1);
+    says::answered(b"pattern 2,2", checked(&[2, 2]), 4, 2);
+    says::answered(b"pattern 3,1", checked(&[3, 1]), 3, 1);
+    says::answered(b"20 ports", numbered(20), 0, 0);
+    says::answered(b"21 ports", numbered(21), 1, 0);
+    says::answered(
+        b"plan of 20 ports",
+        planned(b"ports=20\nlegs=1\nstart=0\nrun=0\n"),
+        0,
+        0,
+    );
+    says::answered(
+        b"plan of 21 ports",
+        planned(b"ports=21\nlegs=1\nstart=0\nrun=0\n"),
+        1,
+        1,
+    );
+    says::answered(
+        b"4 ports, run 8",
+        planned(b"ports=4\nlegs=1\nstart=0\nrun=8\n"),
+        0,
+        0,
+    );
+    says::answered(
+        b"4 ports, run -8",
+        planned(b"ports=4\nlegs=1\nstart=0\nrun=-8\n"),
+        0,
+        0,
+    );
+    says::answered(
+        b"4 ports, run 9",
+        planned(b"ports=4\nlegs=1\nstart=0\nrun=9\n"),
+        10,
+        4,
+    );
+    says::answered(
+        b"4 ports, run -9",
+        planned(b"ports=4\nlegs=1\nstart=0\nrun=-9\n"),
+        10,
+        4,
+    );
+    says::answered(b"legs 0", planned(b"ports=4\nlegs=0\n"), 9, 2);
+}

@@ -1,0 +1,42 @@
+-- `orders::print_all`: each buffer leaves a campaign that runs on, with less to go.
+-- Assumes nothing.
+use mathlib.Core.Path.{_≡_, refl, sym}
+use mathlib.Core.Bool.{Bool, true, false, cond, true≢false}
+use Prim.Native.Nat.{ℕ, suc, _<_}
+use native.Mathlib.Omega.{arith}
+use Rattle.printing.specs.Progress.{toGo}
+use Rattle.printing.proofs.Progress.{Running}
+use Rattle.orders.proofs.print_all.Statement.{statement}
+use Rattle.orders.proofs.print_all.Tie as tie
+
+-- what goes on has less to go, and what ends has none
+went-less : (old new : ℕ) (b : Bool) → b ≡ true → (m : Bool) → (m ≡ true → new < old) → cond m (suc new) 0 < cond b (suc old) 0
+went-less old new true e true h = omega (arith, h refl)
+went-less old new true e false h = omega arith
+went-less old new false e m h = absurd (true≢false (sym e))
+
+abbrev Inv-loop : tie.InvT-loop
+Inv-loop campaign₀ more₀ campaign more = Running (campaign .state)
+
+abbrev μ-loop : tie.MeasureT-loop
+μ-loop campaign₀ more₀ campaign more = cond more (suc (toGo (campaign .state))) 0
+
+loop-holds : tie.Need-loop-holds Inv-loop μ-loop
+loop-holds c = c .pre
+
+print-some-requires : tie.Need-print-some-requires Inv-loop μ-loop
+print-some-requires c κs = c .before .loop .inv
+
+loop-less : tie.Need-loop-less Inv-loop μ-loop
+loop-less c = went-less _ _ _ (c .before .before .loop-test .taken) _ (c .before .print-some .ensures .1)
+
+loop-again : tie.Need-loop-again Inv-loop μ-loop
+loop-again c = c .before .print-some .ensures .0
+
+returns : tie.Need-returns Inv-loop μ-loop
+returns c = tt
+
+pub print-all-spec : {M : Type 1} → statement M
+print-all-spec =
+    tie.close
+    (tie.spec Inv-loop μ-loop loop-holds print-some-requires loop-less loop-again returns)

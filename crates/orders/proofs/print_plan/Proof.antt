@@ -1,0 +1,25 @@
+-- `orders::print_plan`: the campaign on an accepted plan runs on from its first state.
+-- Assumes nothing.
+use mathlib.Core.Path.{sym, ap, subst, _∙_}
+use borrow.Author.Needs.{needs}
+use Rattle.plans.specs.Answers.{judgedTold}
+use Rattle.printing.proofs.Progress.{Running, running-begun}
+use Rattle.orders.proofs.print_plan.Statement.{statement}
+use Rattle.orders.proofs.print_plan.Tie as tie
+
+print-all-requires : tie.Need-print-all-requires
+print-all-requires c κs =
+    let b = c .before .before .before in
+    subst Running (sym (b .begin .ensures .state)) (running-begun _ (ap judgedTold (sym (c .enum-told .given .1)) ∙ b .begin .ensures .judged))
+
+pub print-plan-spec : {M : Type 1} → statement M
+print-plan-spec =
+    tie.close
+    (tie.spec
+    (λ c κs. search needs)
+    (λ c. search needs)
+    print-all-requires
+    (λ c. search needs)
+    (λ c κs. search needs)
+    (λ c. search needs)
+    (λ c. search needs))

@@ -1,0 +1,5 @@
+pub mod Lines
+pub mod Buffer
+pub mod Parts
+pub mod Filling
+pub mod Progress

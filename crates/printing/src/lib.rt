@@ -1,0 +1,119 @@
+// Order lines in bulk: as many whole lines as fit a lent buffer, every mark taken as run.
+use campaign::Answer;
+use campaign::Campaign;
+use words::Refusal;
+ghost use mathlib.Core.Path.{_≡_};
+ghost use mathlib.Core.List.{_++_};
+ghost use Prim.Native.Nat.{_-_, _≤_};
+ghost use lib.ListN.{length, take, drop};
+ghost use Rattle.words.specs.Meaning.{refusalOf};
+ghost use Rattle.campaign.specs.Calls.{bytesOf};
+ghost use Rattle.printing.specs.Answers.{filledTold, stopTold, GivenIs, PrintedIs, fillBytes};
+
+// What was printed: so many bytes with more to come, so many with the end's line last, or not even one line.
+pub enum Filled {
+    Lines(usize),
+    Ended(usize),
+    Refused(Refusal),
+}
+
+// What was printed, and the campaign that it leaves.
+pub struct Printed {
+    pub campaign: Campaign,
+    pub filled: Filled,
+}
+
+// What follows a line: more lines, none after the end's, or a refusal in its place.
+enum Sequel {
+    More,
+    Ended,
+    Refused(Refusal),
+}
+
+// What one request printed at a place: the place after its line, the campaign that it leaves, and what follows.
+struct Given {
+    campaign: Campaign,
+    at: usize,
+    sequel: Sequel,
+}
+
+// One request, its line at a place of the buffer; a mark is reported as run.
+fn request_line(c: Campaign, buf: &mut [u8], at: usize) -> Given
+    requires { ⌜ at ≤ length (now buf) ⌝ }
+    ensures told { λ r. ⌜ GivenIs (length (now (buf .entry)) - at) at (c .state) r ⌝ }
+    ensures bytes { λ _. ⌜ now (buf .exit) ≡ take at (now (buf .entry)) ++ bytesOf (c .state) (drop at (now (buf .entry))) ⌝ }
+{
+    let asked = c.request(&mut buf[at..]);
+    let answer = asked.answer;
+    let next = asked.campaign;
+    let after = at + asked.written;
+    match answer {
+        Answer::Movement(_) => Given {
+            campaign: next,
+            at: after,
+            sequel: Sequel::More,
+        },
+        Answer::Mark(_, _) => {
+            let reported = next.report(0);
+            let ran = reported.campaign;
+            Given {
+                campaign: ran,
+                at: after,
+                sequel: Sequel::More,
+            }
+        }
+        Answer::End(_) => Given {
+            campaign: next,
+            at: after,
+            sequel: Sequel::Ended,
+        },
+        Answer::Refused(f) => Given {
+            campaign: next,
+            at: after,
+            sequel: Sequel::Refused(f),
+        },
+    }
+}
+
+// A refusal after so many bytes: it is told where there are none.
+fn stopped(n: usize, f: Refusal) -> Filled
+    ensures { λ r. ⌜ filledTold r ≡ stopTold n (refusalOf f) ⌝ }
+{
+    if n == 0 {
+        return Filled::Refused(f);
+    }
+    Filled::Lines(n)
+}
+
+// As many whole lines as fit the buffer, from the front; every mark is reported as run.
+pub fn fill(c: Campaign, buf: &mut [u8]) -> Printed
+    ensures told { λ r. ⌜ PrintedIs (length (now (buf .entry))) (c .state) r ⌝ }
+    ensures bytes { λ _. ⌜ now (buf .exit) ≡ fillBytes (c .state) (now (buf .entry)) ⌝ }
+{
+    let mut campaign = c;
+    let mut at: usize = 0;
+    loop {
+        let given = request_line(campaign, buf, at);
+        let sequel = given.sequel;
+        let next = given.campaign;
+        let after = given.at;
+        match sequel {
+            Sequel::More => {
+                campaign = next;
+                at = after;
+            }
+            Sequel::Ended => {
+                return Printed {
+                    campaign: next,
+                    filled: Filled::Ended(after),
+                };
+            }
+            Sequel::Refused(f) => {
+                return Printed {
+                    campaign: next,
+                    filled: stopped(after, f),
+                };
+            }
+        }
+    }
+}
