@@ -1,0 +1,392 @@
+//! The speed table, as Markdown: nanoseconds a call of the proved library beside the plain Rust reference, in the same process and run, and the
+//! deepest stack of each call. Each time is the median of 7 runs with the least and the most; nothing is asserted of any.
+
+use face::Answer;
+use reference::campaign::{print, WORDS};
+use reference::circuit::each_pattern;
+use reference::list::{at, count_of, Move};
+use reference::panel::orders;
+use reference::text::Line;
+use reference::{relations, told};
+use std::arch::asm;
+use std::ptr::{read_volatile, write_volatile};
+use std::time::{Duration, Instant};
+
+const RUNS: usize = 7;
+const SHORTEST_RUN: Duration = Duration::from_millis(10);
+const PORTS: [usize; 4] = [8, 9, 10, 20];
+
+/// Keeps a value from being optimised away.
+fn keep<T: Copy>(value: T) -> T {
+    // a read of an own local through its address
+    unsafe { read_volatile(&value) }
+}
+
+/// What 7 runs took, in nanoseconds for one call of a run.
+struct Took {
+    least: f64,
+    median: f64,
+    most: f64,
+}
+
+impl Took {
+    fn shown(&self) -> String {
+        format!("{:.0} ({:.0}..{:.0})", self.median, self.least, self.most)
+    }
+
+    /// Calls a second, in millions.
+    fn millions(&self) -> String {
+        format!("{:.2} ({:.2}..{:.2})", 1e3 / self.median, 1e3 / self.most, 1e3 / self.least)
+    }
+}
+
+/// Times `work`, which makes and answers a number of calls. A run repeats it until the run is long enough to be timed.
+fn time(mut work: impl FnMut() -> usize) -> Took {
+    work();
+    let mut each: Vec<f64> = (0..RUNS)
+        .map(|_| {
+            let (start, mut calls) = (Instant::now(), 0);
+            while start.elapsed() < SHORTEST_RUN {
+                calls += work();
+            }
+            start.elapsed().as_nanos() as f64 / calls as f64
+        })
+        .collect();
+    each.sort_by(f64::total_cmp);
+    Took { least: each[0], median: each[RUNS / 2], most: each[RUNS - 1] }
+}
+
+/// Ranks spread over the list, the same in every run.
+fn ranks(n: usize) -> Vec<u64> {
+    let count = count_of(n);
+    (0..256u128).map(|k| ((k * 0x9e37_79b9_7f4a_7c15 + k) % count) as u64).collect()
+}
+
+fn patterns(n: usize) -> Vec<Vec<u8>> {
+    ranks(n).into_iter().map(|rank| at(n, rank.into())).collect()
+}
+
+type OnPattern = fn(&[u8], &mut Answer) -> u8;
+type OnRank = fn(u64, &mut [u8], &mut Answer) -> u8;
+type Neighbour = fn(&mut [u8], &mut Answer) -> u8;
+
+fn time_on_pattern(n: usize, call: OnPattern) -> Took {
+    let patterns = patterns(n);
+    let mut answer = [0; 5];
+    time(|| {
+        for pattern in &patterns {
+            keep(call(pattern, &mut answer));
+        }
+        patterns.len()
+    })
+}
+
+fn time_unrank(n: usize, call: OnRank) -> Took {
+    let (ranks, mut pattern, mut answer) = (ranks(n), vec![0; n], [0; 5]);
+    time(|| {
+        for &rank in &ranks {
+            keep(call(rank, &mut pattern, &mut answer));
+        }
+        ranks.len()
+    })
+}
+
+fn time_neighbour(n: usize, call: Neighbour) -> Took {
+    let (mut patterns, mut answer) = (patterns(n), [0; 5]);
+    time(|| {
+        for pattern in &mut patterns {
+            keep(call(pattern, &mut answer));
+        }
+        patterns.len()
+    })
+}
+
+/// The plain Rust neighbours as calls: checked, and by the relations.
+fn plain_next(pattern: &mut [u8], answer: &mut Answer) -> u8 {
+    plain(pattern, answer, relations::next)
+}
+
+fn plain_previous(pattern: &mut [u8], answer: &mut Answer) -> u8 {
+    plain(pattern, answer, relations::previous)
+}
+
+fn plain(pattern: &mut [u8], answer: &mut Answer, go: fn(&mut [u8]) -> Move) -> u8 {
+    let number = told::check(pattern, answer);
+    if number == 0 {
+        *answer = match go(pattern) {
+            Move::Nothing => [0; 5],
+            Move::Swap(a, b) => [1, a, b, 0, 0].map(u64::from),
+            Move::Turn(a, b, c) => [2, a, b, c, 0].map(u64::from),
+            Move::TwoSwaps(a, b, c, d) => [5, a, b, c, d].map(u64::from),
+        };
+    }
+    number
+}
+
+fn calls_table() {
+    println!("\n## Calls on patterns\n");
+    println!("Nanoseconds a call. The reference allocates as it likes and finds a neighbour from the list: the rank, the pattern one rank on, the difference. 'Plain");
+    println!("Rust' is the check and then relations (3) to (9) on arrays, with nothing allocated.\n");
+    println!("| call | ports | library | reference | plain Rust |\n|---|---|---|---|---|");
+    let on_pattern: [(&str, OnPattern, OnPattern); 2] = [("check", face::check, told::check), ("rank", face::rank, told::rank)];
+    for (name, library, reference) in on_pattern {
+        for n in PORTS {
+            println!("| {name} | {n} | {} | {} | |", time_on_pattern(n, library).shown(), time_on_pattern(n, reference).shown());
+        }
+    }
+    for n in PORTS {
+        println!("| unrank | {n} | {} | {} | |", time_unrank(n, face::unrank).shown(), time_unrank(n, told::unrank).shown());
+    }
+    let neighbours: [(&str, [Neighbour; 3]); 2] = [("next", [face::next, told::next, plain_next]), ("previous", [face::previous, told::previous, plain_previous])];
+    for (name, sides) in neighbours {
+        for n in PORTS {
+            let [library, reference, plain] = sides.map(|call| time_neighbour(n, call).shown());
+            println!("| {name} | {n} | {library} | {reference} | {plain} |");
+        }
+    }
+}
+
+/// Next from the first pattern round to it again.
+fn walk(n: usize, call: Neighbour) -> usize {
+    let (mut pattern, mut answer, mut met) = (at(n, 0), [0; 5], 0);
+    let first = pattern.clone();
+    loop {
+        keep(call(&mut pattern, &mut answer));
+        met += 1;
+        if pattern == first {
+            return met;
+        }
+    }
+}
+
+fn generate(n: usize) -> usize {
+    let mut met = 0;
+    each_pattern(n, |pattern| {
+        keep(pattern[0]);
+        met += 1;
+    });
+    met
+}
+
+fn circuits_table() {
+    println!("\n## Whole circuits\n");
+    println!("Nanoseconds a pattern: next round the whole circuit, beside the two procedures of document 000, which walk the list in order and keep their place");
+    println!("in it; next is given a pattern and nothing else.\n");
+    println!("| ports | patterns | library next | plain Rust next | gen_up and gen_down |\n|---|---|---|---|---|");
+    for n in [8, 9, 10] {
+        let count = count_of(n);
+        assert_eq!([walk(n, face::next), walk(n, plain_next), generate(n)], [count as usize; 3], "each way meets every pattern");
+        let (library, plain, generated) = (time(|| walk(n, face::next)), time(|| walk(n, plain_next)), time(|| generate(n)));
+        println!("| {n} | {count} | {} | {} | {} |", library.shown(), plain.shown(), generated.shown());
+    }
+}
+
+fn begun(n: usize) -> (Vec<u8>, Vec<u64>) {
+    let plan = format!("ports={n}\nlegs=1\nstart=0\nrun={}\n", count_of(n) - 1).into_bytes();
+    let (mut state, mut answer) = (vec![0; WORDS], [0; 5]);
+    assert_eq!(told::begin(&plan, &mut state, &mut answer), 0, "the plan is accepted");
+    (plan, state)
+}
+
+type Request = fn(&mut [u64], &mut [u8], &mut Answer) -> u8;
+type Report = fn(&mut [u64], u8, &mut Answer) -> u8;
+
+/// 256 marks of a leg, each with the orders that lead to it and its report. From the leg's start each time.
+fn marks(first: &[u64], request: Request, report: Report) -> usize {
+    let (mut state, mut line, mut answer) = (first.to_vec(), [0; 45], [0; 5]);
+    let mut met = 0;
+    while met < 256 {
+        assert_eq!(request(&mut state, &mut line, &mut answer), 0);
+        if answer[0] == 3 {
+            assert_eq!(report(&mut state, 0, &mut answer), 0);
+            met += 1;
+        }
+    }
+    met
+}
+
+fn campaign_table() {
+    println!("\n## Request and report inside a leg\n");
+    println!("Nanoseconds a mark: the requests for its orders (one or two), the request for the mark, the report.\n");
+    println!("| ports | library | reference |\n|---|---|---|");
+    for n in PORTS {
+        let first = begun(n).1;
+        let (library, reference) = (time(|| marks(&first, face::request, face::report)), time(|| marks(&first, told::request, told::report)));
+        println!("| {n} | {} | {} |", library.shown(), reference.shown());
+    }
+}
+
+/// Every line of a state's campaign by jidrofex_orders.
+fn library_prints(first: &[u64], buffer: &mut [u8]) -> usize {
+    let (mut state, mut answer, mut lines) = (first.to_vec(), [0; 5], 0);
+    while answer[1] == 0 {
+        assert_eq!(face::orders(&mut state, buffer, &mut answer), 0);
+        lines += count_lines(&buffer[..answer[0] as usize]);
+    }
+    lines
+}
+
+fn count_lines(text: &[u8]) -> usize {
+    text.iter().filter(|&&byte| byte == b'\n').count()
+}
+
+/// A full circuit from home, printed in plain Rust by the relations.
+fn plain_prints(n: usize) -> Vec<u8> {
+    let (count, mut pattern, mut text) = (count_of(n) as u64, at(n, 0), vec![]);
+    text.extend(Line::Mark(0, 0).text());
+    for rank in 1..count {
+        for order in orders(relations::next(&mut pattern)) {
+            text.extend(order.text());
+        }
+        text.extend(Line::Mark(rank, rank).text());
+    }
+    text.extend(Line::End(count).text());
+    text
+}
+
+fn printer_table() {
+    println!("\n## Orders printed\n");
+    println!("Millions of lines a second over one full circuit: jidrofex_orders by a buffer of 64 KiB, beside the reference's printer (each pattern from its");
+    println!("rank) and a plain Rust printer that goes on by the relations.\n");
+    println!("| ports | lines | library | reference | plain Rust |\n|---|---|---|---|---|");
+    let mut buffer = vec![0; 1 << 16];
+    for n in [7, 8, 9] {
+        let (plan, first) = begun(n);
+        let text = print(&plan);
+        assert!(plain_prints(n) == text, "the two printers print the same");
+        let lines = count_lines(&text);
+        assert_eq!(library_prints(&first, &mut buffer), lines, "the library prints as many lines");
+        let library = time(|| library_prints(&first, &mut buffer));
+        let reference = time(|| count_lines(&print(&plan)));
+        let plain = time(|| count_lines(&plain_prints(n)));
+        println!("| {n} | {lines} | {} | {} | {} |", library.millions(), reference.millions(), plain.millions());
+    }
+}
+
+/// Where the stack's pointer stands.
+#[inline(always)]
+fn stack_pointer() -> usize {
+    let at: usize;
+    #[cfg(target_arch = "x86_64")]
+    unsafe {
+        asm!("mov {}, rsp", out(reg) at, options(nomem, nostack, preserves_flags));
+    }
+    #[cfg(target_arch = "aarch64")]
+    unsafe {
+        asm!("mov {}, sp", out(reg) at, options(nomem, nostack, preserves_flags));
+    }
+    at
+}
+
+const STACK: usize = 1 << 20;
+const PAINTED: usize = 1 << 19;
+const PAINT: u64 = 0x5ca1_ab1e_0ddb_a11d;
+
+/// How many bytes below this frame a call writes: the stack below is painted, and the lowest word that lost its paint is looked for. Runs on a thread
+/// whose stack is larger than what is painted; this function makes a call, so that nothing of its own stands below the pointer.
+#[inline(never)]
+fn depth(call: &mut dyn FnMut()) -> usize {
+    let top = stack_pointer();
+    let lowest = top - PAINTED;
+    for at in (lowest..top).step_by(8) {
+        unsafe { write_volatile(at as *mut u64, PAINT) };
+    }
+    call();
+    let reached = (lowest..top).step_by(8).find(|&at| unsafe { read_volatile(at as *const u64) } != PAINT);
+    top - reached.unwrap_or(top)
+}
+
+/// What is lent to the calls: a pattern of 20 ports, a state in the middle of a leg, a buffer, an answer.
+struct Lent {
+    pattern: Vec<u8>,
+    state: Vec<u64>,
+    buffer: Vec<u8>,
+    answer: Answer,
+}
+
+/// The deepest of a call over 256 inputs, each made ready first. The first round of calls is not looked at: the loader may take stack in it.
+fn deepest(ready: impl Fn(&mut Lent) + Send, call: impl Fn(&mut Lent) + Send) -> usize {
+    let measure = move || {
+        let mut lent = Lent { pattern: vec![], state: begun(20).1, buffer: vec![0; 4096], answer: [0; 5] };
+        let mut most = 0;
+        for round in 0..2 {
+            for pattern in patterns(20) {
+                lent.pattern = pattern;
+                ready(&mut lent);
+                let found = depth(&mut || call(&mut lent));
+                most = if round == 0 { 0 } else { most.max(found) };
+            }
+        }
+        most
+    };
+    std::thread::scope(|scope| {
+        let thread = std::thread::Builder::new().stack_size(STACK).spawn_scoped(scope, measure).expect("a thread");
+        thread.join().expect("the calls end")
+    })
+}
+
+const STANDING: usize = 59;
+
+/// The last mark closed, so that a request is due.
+fn for_request(lent: &mut Lent) {
+    if lent.state[STANDING] == 1 {
+        face::report(&mut lent.state, 0, &mut lent.answer);
+    }
+}
+
+/// A mark standing, so that a report is due.
+fn for_report(lent: &mut Lent) {
+    while lent.state[STANDING] == 0 {
+        face::request(&mut lent.state, &mut lent.buffer, &mut lent.answer);
+    }
+}
+
+fn stack_table() {
+    println!("\n## Stack\n");
+    println!("The deepest stack seen of each call over 256 inputs of 20 ports, in bytes, the Rust frame that makes the call included.\n");
+    println!("| call | bytes |\n|---|---|");
+    const LONGEST: &[u8] = b"mark=18446744073709551615,18446744073709551615\n";
+    let plan = &begun(20).0;
+    let nothing = |_: &mut Lent| {};
+    let show = |name: &str, bytes: usize| println!("| {name} | {bytes} |");
+    show("check", deepest(nothing, |l| accepted(face::check(&l.pattern, &mut l.answer))));
+    show("check_panel", deepest(nothing, |l| accepted(face::check_panel(&l.pattern, &mut l.answer))));
+    show("count", deepest(nothing, |l| accepted(face::count(20, &mut l.answer))));
+    show("rank", deepest(nothing, |l| accepted(face::rank(&l.pattern, &mut l.answer))));
+    show("unrank", deepest(nothing, |l| accepted(face::unrank(u64::from(l.pattern[0]) << 54, &mut l.pattern, &mut l.answer))));
+    show("next", deepest(nothing, |l| accepted(face::next(&mut l.pattern, &mut l.answer))));
+    show("previous", deepest(nothing, |l| accepted(face::previous(&mut l.pattern, &mut l.answer))));
+    show("step", deepest(nothing, |l| accepted(face::step(20, l.pattern[0].into(), i64::MIN, &mut l.answer))));
+    show("port_at", deepest(nothing, |l| accepted(face::port_at(&l.pattern, 20, &mut l.answer))));
+    show("jack_of", deepest(nothing, |l| accepted(face::jack_of(&l.pattern, 20, &mut l.answer))));
+    show("carry", deepest(nothing, |l| accepted(face::carry(&mut l.pattern, &[2, 1, 20, 3], &mut l.answer))));
+    show("write_line", deepest(nothing, |l| accepted(face::write_line(&[3, u64::MAX, u64::MAX, 0], &mut l.buffer, &mut l.answer))));
+    show("read_line", deepest(nothing, |l| accepted(face::read_line(LONGEST, 0, &mut l.answer))));
+    show("begin", deepest(nothing, |l| accepted(face::begin(plan, &mut l.state, &mut l.answer))));
+    show("request", deepest(for_request, |l| accepted(face::request(&mut l.state, &mut l.buffer, &mut l.answer))));
+    show("report", deepest(for_report, |l| accepted(face::report(&mut l.state, 0, &mut l.answer))));
+    show("orders", deepest(for_request, |l| accepted(face::orders(&mut l.state, &mut l.buffer, &mut l.answer))));
+}
+
+/// The call was accepted: a refused one would say nothing of the stack.
+fn accepted(number: u8) {
+    assert_eq!(number, 0, "the call is accepted");
+}
+
+fn machine() -> String {
+    let kind = std::process::Command::new("uname").arg("-m").output().map(|said| String::from_utf8_lossy(&said.stdout).trim().to_string());
+    let about = std::fs::read_to_string("/proc/cpuinfo").unwrap_or_default();
+    let line = |key: &str| about.lines().find(|line| line.starts_with(key)).and_then(|line| line.split(": ").nth(1)).map(str::to_string);
+    let model = line("model name").or_else(|| Some(format!("implementer {} part {}", line("CPU implementer")?, line("CPU part")?)));
+    let processors = about.lines().filter(|line| line.starts_with("processor")).count();
+    format!("{}, {}, {processors} processors", kind.unwrap_or_else(|_| std::env::consts::ARCH.into()), model.unwrap_or_else(|| "processor not named".into()))
+}
+
+fn main() {
+    println!("Machine: {}. Medians of {RUNS} runs, least and most in brackets.", machine());
+    calls_table();
+    circuits_table();
+    campaign_table();
+    printer_table();
+    stack_table();
+}

@@ -1,0 +1,101 @@
+# The reference: the plain Rust of tests/reference, written from the paper and document 000, holds to what these print; the proved library, through its
+# calls for C, holds to the reference on many inputs; the examples of a controller's loop print the paper's output.
+reference_out=target/reference
+reference_archive=target/host/libface.a
+
+# reference_build LABEL COMMAND..: the command, which compiles something; its messages are shown where it fails
+reference_build() {
+    reference_label=$1
+    shift
+    if "$@" >"$reference_out/log" 2>&1; then return 0; fi
+    cat "$reference_out/log"
+    fail "reference: $reference_label does not build"
+    return 1
+}
+
+# reference_rust LABEL ARGUMENTS..: a Rust program or library
+reference_rust() {
+    reference_label=$1
+    shift
+    reference_build "$reference_label" rustc -O --edition 2021 -D warnings "$@"
+}
+
+# the reference against document 000 and the paper
+reference_selftest() {
+    reference_rust 'the self test' --extern "reference=$reference_out/libreference.rlib" \
+        -o "$reference_out/selftest" tests/reference/selftest.rs || return
+    if "$reference_out/selftest" >"$reference_out/log" 2>&1 &&
+        tail -n 1 "$reference_out/log" | grep -Eqx 'selftest: [1-9][0-9]* comparisons, all hold'; then
+        pass "reference: $(tail -n 1 "$reference_out/log")"
+    else
+        cat "$reference_out/log"
+        fail 'reference: the self test'
+    fi
+}
+
+# the library beside the reference: one line for each group of inputs
+reference_differential() {
+    reference_rust 'the differential test' --extern "reference=$reference_out/libreference.rlib" --extern "face=$reference_out/libface.rlib" \
+        -C "link-arg=$reference_archive" -o "$reference_out/differential" tests/reference/differential.rs || return
+    if "$reference_out/differential" >"$reference_out/log" 2>&1 &&
+        tail -n 1 "$reference_out/log" | grep -Eqx 'differential: [1-9][0-9]* cases, 0 differences'; then
+        while read -r reference_line; do
+            case $reference_line in
+                'group '*) pass "differential: $reference_line" ;;
+                *) echo "$reference_line" ;;
+            esac
+        done <"$reference_out/log"
+    else
+        cat "$reference_out/log"
+        fail 'the differential test: the library and the reference differ, or it did not end'
+    fi
+}
+
+# reference_example LABEL PROGRAM: it prints the paper's output for the paper's plan, built in and from a file, and says why it refuses another
+reference_example() {
+    if "$2" >"$reference_out/found" && cmp "$reference_out/found" "$reference_out/output" &&
+        "$2" "$reference_out/plan" >"$reference_out/found" && cmp "$reference_out/found" "$reference_out/output"; then
+        pass "examples: $1: the paper's output for the paper's plan, built in and from a file"
+    else
+        cat "$reference_out/found"
+        fail "examples: $1: not the paper's output"
+    fi
+    if "$2" "$reference_out/refused" >"$reference_out/found" 2>"$reference_out/said"; then
+        fail "examples: $1: a refused plan ends well"
+    elif [ ! -s "$reference_out/found" ] && [ "$(cat "$reference_out/said")" = 'begin: refused=9 at=2' ]; then
+        pass "examples: $1: a refused plan is said, with its number and line"
+    else
+        cat "$reference_out/found" "$reference_out/said"
+        fail "examples: $1: a refused plan is not said"
+    fi
+}
+
+reference_examples() {
+    printf 'ports=4\nlegs=2\nstart=0\nrun=2\nstart=8\nrun=-1\n' >"$reference_out/plan"
+    printf 'ports=4\nlegs=0\n' >"$reference_out/refused"
+    printf '%s\n' mark=0,0 turn=1,2,3 mark=1,1 swap=1,2 mark=2,2 swap=1,3 swap=2,4 mark=3,8 swap=1,3 mark=4,7 end=5 >"$reference_out/output"
+    reference_build 'the example in C' cc -std=c99 -pedantic -O2 -Wall -Wextra -Werror -Iinclude \
+        -o "$reference_out/campaign_c" examples/c/campaign.c "$reference_archive" &&
+        reference_example C "$reference_out/campaign_c"
+    reference_rust 'the example in Rust' -C "link-arg=$reference_archive" -o "$reference_out/campaign_rust" examples/rust/campaign.rs &&
+        reference_example Rust "$reference_out/campaign_rust"
+}
+
+reference_tools=yes
+command -v rustc >/dev/null 2>&1 || { reference_tools=no && fail 'the command rustc is missing: install the Debian package rustc'; }
+command -v cc >/dev/null 2>&1 || { reference_tools=no && fail 'the command cc is missing: install the Debian package gcc'; }
+if [ "$reference_tools" = yes ]; then
+    mkdir -p "$reference_out"
+    # an archive that is older than a file of crates/ would be a test of what was there before
+    if [ ! -f "$reference_archive" ] || [ -n "$(find crates -newer "$reference_archive" -type f | head -n 1)" ]; then
+        rm -f "$reference_archive"
+        reference_build 'the library for this machine' tools/host-archive face
+    fi
+    if [ -f "$reference_archive" ] &&
+        reference_rust 'the reference' --crate-type rlib --crate-name reference -o "$reference_out/libreference.rlib" tests/reference/reference.rs &&
+        reference_rust 'the calls from Rust' --crate-type rlib --crate-name face -o "$reference_out/libface.rlib" tests/reference/face.rs; then
+        reference_selftest
+        reference_differential
+        reference_examples
+    fi
+fi

@@ -1,0 +1,41 @@
+//! The reference: Jidrofex in plain Rust, written from the paper and document 000 and from nothing else. The proved library is held to it.
+//! Clarity comes first here: vectors, wide integers and recursion wherever they make a sentence of the paper plain.
+//!
+//! - `list`: the list of patterns, check, count, rank, unrank, next, previous, the signed step
+//! - `circuit`: the list once more, as document 000's procedures gen_up and gen_down produce it, pattern by pattern
+//! - `relations`: one neighbour by relations (3) to (9), without walking the list: the plain Rust that the speed table times
+//! - `panel`: look-ups and orders carried out
+//! - `text`: numbers and order lines
+//! - `plan`: the reading of plans
+//! - `campaign`: the state, its fitness, request, report, and the order printer
+//! - `told`: all of these as the calls of include/jidrofex.h, in numbers and slices
+
+pub mod campaign;
+pub mod circuit;
+pub mod list;
+pub mod panel;
+pub mod plan;
+pub mod relations;
+pub mod text;
+pub mod told;
+
+pub const MOST_PORTS: usize = 20;
+pub const MOST_LEGS: usize = 16;
+pub const MOST_ERRORS: u128 = 65_535;
+
+/// A refusal: the paper's number, and the place, 0 where none is said.
+#[derive(Clone, Copy, Debug, PartialEq, Eq)]
+pub struct Refusal {
+    pub number: u8,
+    pub place: u64,
+}
+
+/// A refusal at a jack, or at a line of a plan.
+pub fn refusal_at(number: u8, place: u64) -> Refusal {
+    Refusal { number, place }
+}
+
+/// A refusal at no place.
+pub fn refusal(number: u8) -> Refusal {
+    refusal_at(number, 0)
+}

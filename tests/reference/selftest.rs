@@ -1,0 +1,329 @@
+//! The reference held to what is printed: document 000's tables for 4 and 5 ports, the paper's 'Cases to prove' and 'To run', the paper's example;
+//! to the rules of a campaign, and demand three on full circuits; and to itself: three ways to the list (the definition, the procedures, the relations)
+//! over every circuit of 2 to 8 ports.
+//! Ends in a line with the number of comparisons, or in the first one that does not hold.
+
+use reference::campaign::{print, State};
+use reference::circuit::each_pattern;
+use reference::list::{apply, at, at_reversed, check, check_panel, count, count_of, difference, next, place, place_reversed, previous, rank, step, unrank, Move};
+use reference::panel::carry;
+use reference::plan::read_plan;
+use reference::text::{read_line, write_line, Line};
+use reference::{relations, Refusal};
+use std::collections::HashSet;
+use std::fmt::Debug;
+use std::process::exit;
+
+/// Table 1 of document 000, row by row from number 1.
+const FOUR: [&str; 9] = ["2341", "3421", "4321", "3412", "3142", "4312", "2413", "4123", "2143"];
+const FIVE: [&str; 44] = [
+    "23451", "34251", "43251", "34521", "35421", "43521", "24531", "45231", "25431", "54231", "53421", // 1 to 11
+    "35412", "45132", "51432", "41532", "54132", "43152", "31452", "34152", "43512", "34512", "53412", // 12 to 22
+    "25413", "54213", "45213", "54123", "51423", "45123", "24153", "41253", "21453", "41523", "24513", // 23 to 33
+    "23154", "31254", "21534", "51234", "25134", "53124", "31524", "35124", "53214", "35214", "23514", // 34 to 44
+];
+
+/// Table 2 of document 000: the list for 4, and B = A(2) of its patterns read backwards.
+const B_OF_TABLE_2: [&str; 9] = ["51432", "41532", "54132", "43152", "31452", "34152", "43512", "34512", "53412"];
+
+const PLAN: &[u8] = b"ports=4\nlegs=2\nstart=0\nrun=2\nstart=8\nrun=-1\n";
+const OUTPUT: &[u8] = b"mark=0,0\nturn=1,2,3\nmark=1,1\nswap=1,2\nmark=2,2\nswap=1,3\nswap=2,4\nmark=3,8\nswap=1,3\nmark=4,7\nend=5\n";
+
+/// Comparisons made so far.
+struct Compared(u64);
+
+impl Compared {
+    fn same<T: PartialEq + Debug>(&mut self, what: &str, found: T, wanted: T) {
+        self.0 += 1;
+        if found != wanted {
+            println!("selftest: {what}: found {found:?}, wanted {wanted:?}");
+            exit(1);
+        }
+    }
+}
+
+fn pattern(row: &str) -> Vec<u8> {
+    row.bytes().map(|digit| digit - b'0').collect()
+}
+
+fn refused<T>(number: u8, place: u64) -> Result<T, Refusal> {
+    Err(Refusal { number, place })
+}
+
+fn tables(compared: &mut Compared) {
+    for (rows, n) in [(&FOUR[..], 4), (&FIVE[..], 5)] {
+        let table: Vec<Vec<u8>> = rows.iter().map(|row| pattern(row)).collect();
+        compared.same("rows of the table", count_of(n), table.len() as u128);
+        let mut generated = vec![];
+        each_pattern(n, |p| generated.push(p.to_vec()));
+        for (row, p) in table.iter().enumerate() {
+            compared.same("a row by the definition", &at(n, row as u128), p);
+            compared.same("a row by the procedures", &generated[row], p);
+            compared.same("the rank of a row", rank(p), Ok(row as u128));
+        }
+    }
+    // the paper's slip: row i = n-2 of relation (8) as printed 'leads from 21453 to a pattern with port 1 on jack 1'
+    let mut printed = pattern("21453");
+    apply(Move::Turn(1, 2, 4), &mut printed);
+    compared.same("the row as printed", check(&printed), refused(5, 1));
+    for (row, shown) in B_OF_TABLE_2.iter().enumerate() {
+        compared.same("a row of table 2", pattern(shown), at(5, 13 + row as u128));
+    }
+}
+
+fn cases_to_prove(compared: &mut Compared) {
+    for (n, wanted) in [(3, 2), (4, 9), (5, 44), (20, 895014631192902121)] {
+        compared.same("count", count(n), Ok(wanted));
+    }
+    compared.same("the count of 21 passes 64 bits", count_of(21) > u64::MAX.into(), true);
+    compared.same("the most marks", 16 * count_of(20), 14320234099086433936);
+    let ranks = [(3, 1, "312"), (4, 0, "2341"), (4, 3, "3412"), (4, 8, "2143"), (5, 9, "54231"), (5, 31, "41523"), (5, 43, "23514")];
+    for (n, place, row) in ranks {
+        compared.same("unrank", unrank(n, place), Ok(pattern(row)));
+        compared.same("rank", rank(&pattern(row)), Ok(place));
+    }
+    for (from, k, to) in [(0, -1, 8), (8, 1, 0), (0, i64::MIN, 1)] {
+        compared.same("signed step", step(4, from, k.into()), Ok(to));
+    }
+}
+
+fn to_run(compared: &mut Compared) {
+    compared.same("(1,1)", check(&[1, 1]), refused(5, 1));
+    compared.same("(2,2)", check(&[2, 2]), refused(4, 2));
+    compared.same("(3,1)", check(&[3, 1]), refused(3, 1));
+    compared.same("20 ports", check(&at(20, 0)), Ok(()));
+    compared.same("21 ports", check(&[1; 21]), refused(1, 0));
+    compared.same("a self-join on a panel", check_panel(&[1, 2]), Ok(()));
+    compared.same("the count of 0", count(0), refused(1, 0));
+    compared.same("the count of 1", count(1), refused(1, 0));
+    compared.same("the rank past the end", unrank(4, 9), refused(6, 0));
+    for (run, accepted) in [("8", true), ("-8", true), ("9", false), ("-9", false), ("-18446744073709551615", false)] {
+        let read = read_plan(format!("ports=4\nlegs=1\nstart=0\nrun={run}\n").as_bytes());
+        compared.same("a run for 4 ports", read.map(|_| ()), if accepted { Ok(()) } else { refused(10, 4) });
+    }
+    let refusals: [(&[u8], u8, u64); 14] = [
+        (b"", 11, 1),
+        (b"\n", 7, 1),
+        (b"ports=21\n", 1, 1),
+        (b"ports=276\n", 1, 1),
+        (b"ports=04\n", 8, 1),
+        (b"ports=+4\n", 8, 1),
+        (b"ports=18446744073709551616\n", 8, 1),
+        (b"ports=4\nlegs=0\n", 9, 2),
+        (b"ports=4\nlegs=17\n", 9, 2),
+        (b"ports=4\nlegs=1\nstart=9\n", 6, 3),
+        (b"ports=4\nlegs=1\nstart=8\nrun=-0\n", 8, 4),
+        (b"ports=4\nlegs=1\nstart=8\nrun=1", 11, 4),
+        (b"ports=4\nlegs=1\nstart=8\nrun=1\n\n", 11, 5),
+        (b"ports=2\nlegs=1\nstart=0\nrun=1\n", 10, 4),
+    ];
+    for (text, number, line) in refusals {
+        compared.same("a refused plan", read_plan(text).map(|_| ()), refused(number, line));
+        compared.same("what the printer says of it", print(text), format!("refused={number}\nat={line}\n").into_bytes());
+    }
+    let longest = format!("ports=20\nlegs=16\n{}", "start=895014631192902120\nrun=-895014631192902120\n".repeat(16));
+    compared.same("the longest plan's bytes", longest.len(), 801);
+    let plan = read_plan(longest.as_bytes()).expect("the longest plan is accepted");
+    compared.same("the longest line's bytes", Line::Mark(plan.number(15, 0) as u64, plan.rank(15, 0) as u64).text().len(), 45);
+    compared.same("home", State::first(plan).panel, at(20, 0));
+}
+
+fn order_lines(compared: &mut Compared) {
+    let refusals: [(&[u8], u8); 16] = [
+        (b"\n", 7),
+        (b"swap\n", 7),
+        (b"swap =1,2\n", 7),
+        (b"swap=\n", 8),
+        (b"swap=1,2\r\n", 8),
+        (b"swap=1\n", 8),
+        (b"swap=0,1,2\n", 8),
+        (b"swap=1,18446744073709551616\n", 8),
+        (b"end=1,\n", 8),
+        (b"end=-1\n", 8),
+        (b"mark=01,1\n", 8),
+        (b"swap=1,300\n", 17),
+        (b"swap=0,1\n", 17),
+        (b"swap=2,1\n", 17),
+        (b"turn=2,1,3\n", 17),
+        (b"swap=1,2", 11),
+    ];
+    for (text, number) in refusals {
+        compared.same("a refused line", read_line(text, 0), refused(number, 0));
+    }
+    compared.same("a place past the end", read_line(b"end=5\n", usize::MAX), refused(11, 0));
+    compared.same("a place at the end", read_line(b"end=5\n", 6), refused(11, 0));
+    let lines = [Line::Swap(1, 20), Line::Turn(1, 3, 2), Line::Mark(u64::MAX, 0), Line::End(u64::MAX)];
+    for line in lines {
+        let mut buffer = [7; 60];
+        let bytes = write_line(Some(line), &mut buffer).expect("the line fits");
+        compared.same("a line read back", read_line(&buffer, 0), Ok((line, bytes)));
+        compared.same("bytes after the line", buffer[bytes..].iter().all(|&byte| byte == 7), true);
+        compared.same("a buffer one short", write_line(Some(line), &mut buffer[..bytes - 1]), refused(2, 0));
+    }
+    compared.same("17 before 2", write_line(Some(Line::Swap(2, 1)), &mut []), refused(17, 0));
+}
+
+/// A state after requests with room enough, up to and with the next mark.
+fn at_mark(state: &State) -> State {
+    let (_, after) = state.request(45).expect("an order");
+    if after.standing {
+        after
+    } else {
+        at_mark(&after)
+    }
+}
+
+/// The campaign's rules on the paper's plan, one sentence after another.
+fn campaign(compared: &mut Compared) {
+    let first = State::first(read_plan(PLAN).expect("the paper's plan is accepted"));
+    let mark = at_mark(&first);
+    compared.same("a request while a mark stands", mark.request(45), refused(13, 0));
+    compared.same("a request while a mark stands, without room", mark.request(0), refused(13, 0));
+    compared.same("a report with no mark standing", first.report(0), refused(12, 0));
+    compared.same("a report kind above 2, with no mark standing", first.report(3), refused(14, 0));
+    let counts = |state: &State| (state.covered, state.open, state.errors, state.leg, state.step, state.standing);
+    let [ran, error, gave_up] = [0, 1, 2].map(|kind| mark.report(kind).expect("a report"));
+    compared.same("ran", counts(&ran), (1, 0, 0, 0, 1, false));
+    compared.same("error", counts(&error), (0, 0, 1, 0, 0, false));
+    compared.same("gave up", counts(&gave_up), (0, 1, 0, 0, 1, false));
+    compared.same("the same mark after an error", error.request(45).map(|given| given.0), Ok(Line::Mark(0, 0)));
+    let limit = State { errors: 65_535, ..mark.clone() };
+    compared.same("an error at the limit", limit.report(1), refused(16, 0));
+    compared.same("closed at the limit", limit.report(2).map(|after| counts(&after)), Ok((0, 1, 65_535, 0, 1, false)));
+    let mut state = first.clone();
+    for _ in 0..5 {
+        state = at_mark(&state).report(0).expect("a report");
+    }
+    compared.same("the end is shown from the last report", (state.ended, counts(&state)), (true, (5, 0, 0, 1, 1, false)));
+    compared.same("room for the end's line", state.request(5), refused(2, 0));
+    compared.same("the end again and again", state.request(6), Ok((Line::End(5), state.clone())));
+    compared.same("a report after the end", state.report(0), refused(12, 0));
+
+    // the first state in words, typed from the paper and the header, and one word away from it
+    let mut words = [0; 61];
+    for (place, word) in [(0, 4), (1, 2), (3, 8), (18, 2), (19, u64::MAX), (34, 2), (35, 3), (36, 4), (37, 1)] {
+        words[place] = word;
+    }
+    compared.same("the first state in words", first.to_words(), words);
+    let unfit = [
+        (0, 1), (0, 21), (1, 0), (1, 17), (2, 9), (4, 1), (18, 9), (20, 1), (34, 3), (38, 1), (54, 2), (54, 1), (55, 3), (55, 1), (56, 1), (57, 1),
+        (58, 65_536), (59, 2), (60, 1),
+    ];
+    for (place, word) in unfit {
+        let mut changed = words;
+        changed[place] = word;
+        compared.same("an unfit state", State::from_words(&changed), refused(15, 0));
+    }
+    for (place, word) in [(2, 8), (18, -8i64 as u64), (58, 65_535), (59, 1)] {
+        let mut changed = words;
+        changed[place] = word;
+        compared.same("a fit state", State::from_words(&changed).map(|_| ()), Ok(()));
+    }
+    compared.same("60 words", State::from_words(&words[..60]), refused(15, 0));
+}
+
+/// A full circuit as a plan, forward or backward from any start, carried out by a robot that reads the lines: demand three, a to f.
+fn full_circuit(n: usize, start: u128, backward: bool, compared: &mut Compared) {
+    let count = count_of(n);
+    let run = if backward { 1 - count as i128 } else { count as i128 - 1 };
+    let mut state = State::first(read_plan(format!("ports={n}\nlegs=1\nstart={start}\nrun={run}\n").as_bytes()).expect("a plan"));
+    let (mut robot, mut last, mut moved, mut met) = (at(n, 0), vec![], 0, HashSet::new());
+    loop {
+        let (given, mut after) = state.request(45).expect("an order");
+        let (line, _) = read_line(&given.text(), 0).expect("the line is read back");
+        carry(&mut robot, Some(line)).expect("the robot takes it");
+        match line {
+            Line::End(marks) => {
+                compared.same("marks at the end", (u128::from(marks), met.len() as u128, state.covered), (count, count, count));
+                return;
+            }
+            Line::Mark(number, rank) => {
+                compared.same(
+                    "a mark's number and rank",
+                    (u128::from(number), u128::from(rank)),
+                    (met.len() as u128, (start as i128 + run.signum() * number as i128).rem_euclid(count as i128) as u128),
+                );
+                compared.same("a mark meets its pattern", &robot, &at(n, rank.into()));
+                compared.same("at most ports less one movements", moved < n, true);
+                let cords = robot.iter().zip(&last).filter(|(here, there)| here != there).count();
+                compared.same("at most four cords inside a leg", cords <= 4, true);
+                compared.same("a pattern met once", met.insert(robot.clone()), true);
+                (last, moved) = (robot.clone(), 0);
+                after = after.report(0).expect("a report");
+            }
+            _ => moved += 1,
+        }
+        state = after;
+    }
+}
+
+/// 'Every pattern once, and neighbours one move of the paper's form apart', by each of the three ways to the list.
+fn circuit(n: usize, compared: &mut Compared) {
+    let mut all: Vec<Vec<u8>> = vec![];
+    each_pattern(n, |p| all.push(p.to_vec()));
+    let count = all.len();
+    compared.same("the circuit's length", count as u128, count_of(n));
+    compared.same("patterns met once", all.iter().collect::<HashSet<_>>().len(), count);
+    for r in 0..count {
+        let (here, there) = (&all[r], &all[(r + 1) % count]);
+        compared.same("a pattern", check(here), Ok(()));
+        compared.same("its place", place(here), r as u128);
+        compared.same("its place in the reversed list", place_reversed(here), (count - 1 - r) as u128);
+        compared.same("the pattern at the place", &at(n, r as u128), here);
+        compared.same("the pattern at the reversed place", &at_reversed(n, (count - 1 - r) as u128), here);
+        let made = difference(here, there).expect("one move in the paper's form");
+        let undone = difference(there, here).expect("one move in the paper's form");
+        compared.same("no move for 2 ports alone", made == Move::Nothing, n == 2);
+        compared.same("next", next(here), Ok((there.clone(), made)));
+        compared.same("previous", previous(there), Ok((here.clone(), undone)));
+        let mut moved = here.clone();
+        compared.same("the move by the relations", relations::next(&mut moved), made);
+        compared.same("the next pattern by the relations", &moved, there);
+        compared.same("the move back by the relations", relations::previous(&mut moved), undone);
+        compared.same("the previous pattern by the relations", &moved, here);
+    }
+}
+
+/// Every step between blocks of 9 to 20 ports: the relations agree with the list there, both ways.
+fn joins(n: usize, compared: &mut Compared) {
+    let (count, in_a, in_b) = (count_of(n), count_of(n - 1), count_of(n - 2));
+    for i in 1..n as u128 {
+        let block = (i - 1) * (in_a + in_b);
+        let inside = if i % 2 == 1 { in_a } else { in_b };
+        for r in [block, block + inside] {
+            let (here, there) = (at(n, (r + count - 1) % count), at(n, r));
+            let made = difference(&here, &there).expect("one move in the paper's form");
+            let mut moved = here.clone();
+            compared.same("the move between blocks", relations::next(&mut moved), made);
+            compared.same("the pattern after it", &moved, &there);
+            relations::previous(&mut moved);
+            compared.same("the pattern before it", &moved, &here);
+        }
+    }
+}
+
+fn main() {
+    let mut compared = Compared(0);
+    tables(&mut compared);
+    cases_to_prove(&mut compared);
+    to_run(&mut compared);
+    order_lines(&mut compared);
+    campaign(&mut compared);
+    compared.same("the paper's example", print(PLAN), OUTPUT.to_vec());
+    let first = State::first(read_plan(PLAN).expect("the paper's plan is accepted"));
+    let (text, ended, _) = first.orders(1024).expect("its orders fit");
+    compared.same("the paper's example by requests and reports", (text, ended), (OUTPUT.to_vec(), true));
+    for n in 2..=8 {
+        circuit(n, &mut compared);
+    }
+    for n in 9..=20 {
+        joins(n, &mut compared);
+    }
+    for n in 2..=6 {
+        for start in [0, count_of(n) / 2, count_of(n) - 1] {
+            full_circuit(n, start, false, &mut compared);
+            full_circuit(n, start, true, &mut compared);
+        }
+    }
+    println!("selftest: {} comparisons, all hold", compared.0);
+}

@@ -1,0 +1,84 @@
+//! Numbers and order lines as text.
+
+use crate::{refusal, Refusal, MOST_PORTS};
+
+/// An order line. A caller may hold any numbers in it.
+#[derive(Clone, Copy, Debug, PartialEq, Eq)]
+pub enum Line {
+    Swap(u64, u64),
+    Turn(u64, u64, u64),
+    Mark(u64, u64),
+    End(u64),
+}
+
+impl Line {
+    /// Whether the jacks of an order are jacks 1 to n, different and in the paper's form. A mark and an end have none.
+    pub fn in_shape(self, n: u64) -> bool {
+        let jack = |j: u64| 1 <= j && j <= n;
+        match self {
+            Line::Swap(a, b) => jack(a) && jack(b) && a < b,
+            Line::Turn(a, b, c) => jack(a) && jack(b) && jack(c) && a < b && a < c && b != c,
+            Line::Mark(..) | Line::End(_) => true,
+        }
+    }
+
+    /// The line's text, its newline included.
+    pub fn text(self) -> Vec<u8> {
+        match self {
+            Line::Swap(a, b) => format!("swap={a},{b}\n"),
+            Line::Turn(a, b, c) => format!("turn={a},{b},{c}\n"),
+            Line::Mark(number, rank) => format!("mark={number},{rank}\n"),
+            Line::End(marks) => format!("end={marks}\n"),
+        }
+        .into_bytes()
+    }
+}
+
+/// 'Numbers are decimal, without leading zero or plus; 64 bits unsigned for the magnitude.'
+pub fn number(text: &[u8]) -> Option<u64> {
+    let digits = !text.is_empty() && text.iter().all(u8::is_ascii_digit);
+    let leading_zero = text.len() > 1 && text[0] == b'0';
+    if !digits || leading_zero {
+        return None;
+    }
+    std::str::from_utf8(text).ok()?.parse().ok()
+}
+
+/// '`-` only before a non-zero run.'
+pub fn signed(text: &[u8]) -> Option<i128> {
+    match text.strip_prefix(b"-") {
+        None => number(text).map(i128::from),
+        Some(magnitude) => number(magnitude).filter(|&m| m != 0).map(|m| -i128::from(m)),
+    }
+}
+
+/// A line at the front of a buffer; answers how many bytes it takes. 'In writing an order, 17 comes before 2.'
+pub fn write_line(line: Option<Line>, buffer: &mut [u8]) -> Result<usize, Refusal> {
+    let text = line.filter(|line| line.in_shape(MOST_PORTS as u64)).ok_or(refusal(17))?.text();
+    if text.len() > buffer.len() {
+        return Err(refusal(2));
+    }
+    buffer[..text.len()].copy_from_slice(&text);
+    Ok(text.len())
+}
+
+/// The line that starts at a place, and the place after its newline. 'Checks: newline (11, also at or past the end of the slice), key with its `=`
+/// (7), form and count of numbers (8), jacks 1 to 20, different and in shape (17).'
+pub fn read_line(text: &[u8], place: usize) -> Result<(Line, usize), Refusal> {
+    let rest = text.get(place..).unwrap_or(&[]);
+    let end = rest.iter().position(|&byte| byte == b'\n').ok_or(refusal(11))?;
+    let keys: [&[u8]; 4] = [b"swap=", b"turn=", b"mark=", b"end="];
+    let key = keys.into_iter().find(|key| rest[..end].starts_with(key)).ok_or(refusal(7))?;
+    let numbers: Option<Vec<u64>> = rest[key.len()..end].split(|&byte| byte == b',').map(number).collect();
+    let line = match (key, numbers.as_deref()) {
+        (b"swap=", Some(&[a, b])) => Line::Swap(a, b),
+        (b"turn=", Some(&[a, b, c])) => Line::Turn(a, b, c),
+        (b"mark=", Some(&[number, rank])) => Line::Mark(number, rank),
+        (b"end=", Some(&[marks])) => Line::End(marks),
+        _ => return Err(refusal(8)),
+    };
+    if !line.in_shape(MOST_PORTS as u64) {
+        return Err(refusal(17));
+    }
+    Ok((line, place + end + 1))
+}

@@ -1,0 +1,178 @@
+//! The reference as the calls of include/jidrofex.h: numbers and lent slices in, a number and the five words of the answer out.
+
+use crate::campaign::{State, WORDS};
+use crate::list::Move;
+use crate::plan::read_plan;
+use crate::text::Line;
+use crate::{list, panel, refusal, text, Refusal};
+
+pub type Answer = [u64; 5];
+
+/// 'Accepted: the values that the call names, then zeros. Refused: the place, then zeros.'
+fn tell(told: Result<Answer, Refusal>, answer: &mut Answer) -> u8 {
+    match told {
+        Ok(values) => {
+            *answer = values;
+            0
+        }
+        Err(Refusal { number, place }) => {
+            *answer = [place, 0, 0, 0, 0];
+            number
+        }
+    }
+}
+
+fn one(value: u64) -> Answer {
+    [value, 0, 0, 0, 0]
+}
+
+const NOTHING: Answer = [0; 5];
+
+fn move_words(made: Move) -> Answer {
+    let words: [u8; 5] = match made {
+        Move::Nothing => [0, 0, 0, 0, 0],
+        Move::Swap(a, b) => [1, a, b, 0, 0],
+        Move::Turn(a, b, c) => [2, a, b, c, 0],
+        Move::TwoSwaps(a, b, c, d) => [5, a, b, c, d],
+    };
+    words.map(u64::from)
+}
+
+/// The line's four words and one number more.
+fn line_words(line: Line, last: usize) -> Answer {
+    let last = last as u64;
+    match line {
+        Line::Swap(a, b) => [1, a, b, 0, last],
+        Line::Turn(a, b, c) => [2, a, b, c, last],
+        Line::Mark(number, rank) => [3, number, rank, 0, last],
+        Line::End(marks) => [4, marks, 0, 0, last],
+    }
+}
+
+/// 'Words of the line that its kind has no use for are not looked at.' None for a kind that is no line's.
+fn line_of(words: &[u64; 4]) -> Option<Line> {
+    let [kind, a, b, c] = *words;
+    match kind {
+        1 => Some(Line::Swap(a, b)),
+        2 => Some(Line::Turn(a, b, c)),
+        3 => Some(Line::Mark(a, b)),
+        4 => Some(Line::End(a)),
+        _ => None,
+    }
+}
+
+pub fn check(pattern: &[u8], answer: &mut Answer) -> u8 {
+    tell(list::check(pattern).map(|()| NOTHING), answer)
+}
+
+pub fn check_panel(panel: &[u8], answer: &mut Answer) -> u8 {
+    tell(list::check_panel(panel).map(|()| NOTHING), answer)
+}
+
+pub fn count(ports: u8, answer: &mut Answer) -> u8 {
+    tell(list::count(ports.into()).map(|count| one(count as u64)), answer)
+}
+
+pub fn rank(pattern: &[u8], answer: &mut Answer) -> u8 {
+    tell(list::rank(pattern).map(|rank| one(rank as u64)), answer)
+}
+
+pub fn unrank(rank: u64, pattern: &mut [u8], answer: &mut Answer) -> u8 {
+    let found = list::unrank(pattern.len(), rank.into());
+    tell(
+        found.map(|there| {
+            pattern.copy_from_slice(&there);
+            NOTHING
+        }),
+        answer,
+    )
+}
+
+fn beside(found: Result<(Vec<u8>, Move), Refusal>, pattern: &mut [u8], answer: &mut Answer) -> u8 {
+    tell(
+        found.map(|(there, made)| {
+            pattern.copy_from_slice(&there);
+            move_words(made)
+        }),
+        answer,
+    )
+}
+
+pub fn next(pattern: &mut [u8], answer: &mut Answer) -> u8 {
+    beside(list::next(pattern), pattern, answer)
+}
+
+pub fn previous(pattern: &mut [u8], answer: &mut Answer) -> u8 {
+    beside(list::previous(pattern), pattern, answer)
+}
+
+pub fn step(ports: u8, rank: u64, k: i64, answer: &mut Answer) -> u8 {
+    tell(list::step(ports.into(), rank.into(), k.into()).map(|rank| one(rank as u64)), answer)
+}
+
+pub fn port_at(panel: &[u8], jack: u8, answer: &mut Answer) -> u8 {
+    tell(panel::port_at(panel, jack).map(|port| one(port.into())), answer)
+}
+
+pub fn jack_of(panel: &[u8], port: u8, answer: &mut Answer) -> u8 {
+    tell(panel::jack_of(panel, port).map(|jack| one(jack.into())), answer)
+}
+
+pub fn carry(panel: &mut [u8], line: &[u64; 4], answer: &mut Answer) -> u8 {
+    tell(panel::carry(panel, line_of(line)).map(|()| NOTHING), answer)
+}
+
+pub fn write_line(line: &[u64; 4], buffer: &mut [u8], answer: &mut Answer) -> u8 {
+    tell(text::write_line(line_of(line), buffer).map(|bytes| one(bytes as u64)), answer)
+}
+
+pub fn read_line(text: &[u8], place: usize, answer: &mut Answer) -> u8 {
+    tell(text::read_line(text, place).map(|(line, after)| line_words(line, after)), answer)
+}
+
+/// 'A refused text leaves a state all zeros, unless the state's length is wrong (15).'
+pub fn begin(text: &[u8], state: &mut [u64], answer: &mut Answer) -> u8 {
+    if state.len() != WORDS {
+        return tell(Err(refusal(15)), answer);
+    }
+    let begun = read_plan(text);
+    let first = begun.clone().map_or([0; WORDS], |plan| State::first(plan).to_words());
+    state.copy_from_slice(&first);
+    tell(begun.map(|_| NOTHING), answer)
+}
+
+pub fn request(state: &mut [u64], buffer: &mut [u8], answer: &mut Answer) -> u8 {
+    let requested = State::from_words(state).and_then(|fit| fit.request(buffer.len()));
+    tell(
+        requested.map(|(line, after)| {
+            let text = line.text();
+            buffer[..text.len()].copy_from_slice(&text);
+            state.copy_from_slice(&after.to_words());
+            line_words(line, text.len())
+        }),
+        answer,
+    )
+}
+
+pub fn report(state: &mut [u64], kind: u8, answer: &mut Answer) -> u8 {
+    let reported = State::from_words(state).and_then(|fit| fit.report(kind));
+    tell(
+        reported.map(|after| {
+            state.copy_from_slice(&after.to_words());
+            NOTHING
+        }),
+        answer,
+    )
+}
+
+pub fn orders(state: &mut [u64], buffer: &mut [u8], answer: &mut Answer) -> u8 {
+    let printed = State::from_words(state).and_then(|fit| fit.orders(buffer.len()));
+    tell(
+        printed.map(|(text, ended, after)| {
+            buffer[..text.len()].copy_from_slice(&text);
+            state.copy_from_slice(&after.to_words());
+            [text.len() as u64, ended.into(), 0, 0, 0]
+        }),
+        answer,
+    )
+}
