@@ -129,7 +129,7 @@ fn to_run(compared: &mut Compared) {
 }
 
 fn order_lines(compared: &mut Compared) {
-    let refusals: [(&[u8], u8); 16] = [
+    let refusals: [(&[u8], u8); 22] = [
         (b"\n", 7),
         (b"swap\n", 7),
         (b"swap =1,2\n", 7),
@@ -144,7 +144,13 @@ fn order_lines(compared: &mut Compared) {
         (b"swap=1,300\n", 17),
         (b"swap=0,1\n", 17),
         (b"swap=2,1\n", 17),
+        (b"swap=1,1\n", 17),
+        (b"swap=1,21\n", 17),
         (b"turn=2,1,3\n", 17),
+        (b"turn=2,3,1\n", 17),
+        (b"turn=1,2,2\n", 17),
+        (b"turn=1,1,2\n", 17),
+        (b"turn=1,21,2\n", 17),
         (b"swap=1,2", 11),
     ];
     for (text, number) in refusals {
