@@ -3,3 +3,4 @@ pub mod Buffer
 pub mod Parts
 pub mod Filling
 pub mod Progress
+pub mod Only

@@ -149,9 +149,14 @@ stop-some (suc n) e k p = refl
 
 -- ---- how many bytes are told
 
-bytes : Told (ℕ × Bool) → ℕ
+-- how many, and whether the end is among them
+unfoldable pub bytes : Told (ℕ × Bool) → ℕ
 bytes (accepted x) = x .0
 bytes (refused k p) = 0
+
+unfoldable pub ends : Told (ℕ × Bool) → Bool
+ends (accepted x) = x .1
+ends (refused k p) = true
 
 -- as many as there are
 told-bytes : (m : ℕ) (t : Told Bool) (n : ℕ) (b : Bool) → stopTold m t ≡ accepted (n, b) → n ≡ m

@@ -31,7 +31,7 @@ use Rattle.printing.specs.Answers.{filledTold, stopTold, fillOf, Printed
 use Rattle.printing.specs.declared.Filled.the-variants.{Lines}
 use Rattle.printing.specs.declared.Printed.{Printed}
 use Rattle.printing.specs.Progress.{toGo}
-use Rattle.printing.proofs.Lines.{lines-on, lines-off, goes-on, stops}
+use Rattle.printing.proofs.Lines.{lines-on, lines-off, goes-on, stops, ends as finishes}
 
 -- a state that calls on an accepted plan leave
 pub record Running (s : State) : Type 0 where
@@ -144,19 +144,14 @@ module _ (s : State) (R : Running s) (room : ℕ) where
       let same : toGo (leftOf c s) ≡ toGo s = ap (λ E. work E (momentOf (leftOf c s))) (left-setting s k c) ∙ ap (work (settingOf s)) left in
       subst (λ x. Running x × (toGo x ≡ toGo s)) (sym (none-ran (answerOf c s) h (leftOf c s))) (running-left s R c, same)
 
--- whether nothing is to come
-over : Told (ℕ × Bool) → Bool
-over (accepted x) = x .1
-over (refused k p) = true
-
 -- after an answer that no line follows nothing is
 not-more : (a : model.Answer) → more (sequel a) ≡ false → (n : ℕ) → stopTold (width a) (sequel a) ≢ accepted (n, false)
-unfolding over
+unfolding finishes
 not-more (movement o) h n e = absurd (true≢false h)
 not-more (mark k r) h n e = absurd (true≢false h)
-not-more (theEnd k) h n e = true≢false (ap over e)
-not-more taken h n e = true≢false (ap over e)
-not-more (refusal k) h n e = true≢false (ap over e)
+not-more (theEnd k) h n e = true≢false (ap finishes e)
+not-more taken h n e = true≢false (ap finishes e)
+not-more (refusal k) h n e = true≢false (ap finishes e)
 
 -- the lines leave a campaign that runs on, with no more to go
 lines-run : (k room : ℕ) (s : State) → Running s → Running (linesFrom k room s .left) × (toGo (linesFrom k room s .left) ≤ toGo s)
