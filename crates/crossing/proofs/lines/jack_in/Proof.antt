@@ -1,0 +1,14 @@
+-- `crossing::lines::jack_in`: a number of 8 bits is the jack of that number, any other jack 0.
+-- Assumes nothing.
+use borrow.Author.Needs.{needs}
+use Rattle.crossing.proofs.LineWords.{jack-is, jack-none}
+use Rattle.crossing.proofs.lines.jack_in.Statement.{statement}
+use Rattle.crossing.proofs.lines.jack_in.Tie as tie
+
+pub jack-in-spec : {M : Type 1} → statement M
+jack-in-spec =
+    tie.close
+    (tie.spec
+    (λ c. search needs)
+    (λ c. jack-is (c .before .args .w) (c .if1 .taken))
+    (λ c. jack-none (c .before .args .w) (c .if1 .left)))

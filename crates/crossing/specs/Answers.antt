@@ -1,0 +1,20 @@
+-- What a call tells, as it crosses to C: a number and the five words of the answer (include/jidrofex.h, at its head).
+-- Assumes nothing.
+use Prim.Native.Nat.{ℕ}
+use mathlib.Core.List.{List, [], _∷_}
+use Rattle.words.specs.Told.{Told, accepted, refused, spotNumber}
+use Rattle.plans.specs.Answers.{padded}
+
+-- 'a number: 0 if it was accepted, else the number of the refusal'
+abbrev pub numberTold : {A : Type 0} → Told A → ℕ
+numberTold (accepted a) = 0
+numberTold (refused k s) = k
+
+-- five words: these, 'then zeros'
+abbrev pub five : List ℕ → List ℕ
+five l = padded 5 0 l
+
+-- 'accepted: the values that the call names, then zeros; refused: the place, then zeros'
+abbrev pub wordsTold : {A : Type 0} → (A → List ℕ) → Told A → List ℕ
+wordsTold values (accepted a) = five (values a)
+wordsTold values (refused k s) = five (spotNumber s ∷ [])
