@@ -9,7 +9,7 @@ use Prim.Native.Nat.{ℕ, zero, suc, _+_, _≤_, _<_}
 use native.Mathlib.Omega.{arith}
 use lib.Dec.{eqb, leb}
 use lib.IntN.{pos}
-use lib.ListN.{length, getD, take, drop, replicate, getD-replicate, length-take, length-drop, take-append-drop, drop-of-length-le, List·getD-map, List·getD-eq-default}
+use lib.ListN.{length, getD, take, drop, replicate, getD-replicate, length-take, take-append-drop, drop-of-length-le, List·getD-map, List·getD-eq-default}
 use lib.Seq.{take-at, drop-at, drop-cons, drop-drop, getD-take, getD-drop}
 use mir.Syntax.{w64}
 use mir.Val.{SFits}

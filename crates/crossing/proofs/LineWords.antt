@@ -1,7 +1,8 @@
 -- Lines in words: a line by its kind (`from-swap` to `from-none`), that words lose nothing of a line (`line-back`), and that what is no line's words is out of
 -- shape (`none-unfit`, `jack-unfit`).
 -- Assumes nothing.
-use mathlib.Core.Path.{_≡_, refl, sym, ap, _∙_}
+use mathlib.Core.Path.{_≡_, refl, sym, ap}
+use mathlib.Core.Logic.{_⊎_}
 use mathlib.Core.Bool.{true, false}
 use mathlib.Core.List.{[], _∷_, _++_}
 use Prim.Native.Nat.{ℕ, _≤_, _<_}
@@ -10,10 +11,12 @@ use borrow.Author.Tests.{ne-eqb, le-leb, lt-leb}
 use Rattle.listing.specs.Limits.{mostPorts}
 use Rattle.listing.specs.Orders.{swap, turn, one}
 use Rattle.listing.specs.Orders as list
-use Rattle.words.specs.Meaning.{jackAt, orderOf}
+use Rattle.listing.proofs.Numbers.{either, test}
+use Rattle.words.specs.Meaning.{jackAt}
 use Rattle.words.specs.Shape.{rising, shaped, lineFits, LineFits}
 use Rattle.words.proofs.Shape.{passes-fits}
 use Rattle.words.specs.declared.Jack.{Jack}
+use Rattle.words.specs.declared.Order.{Order}
 use Rattle.words.specs.declared.Order.the-variants.{Swap, Turn}
 use Rattle.words.specs.declared.Line.{Line}
 use Rattle.words.specs.declared.Line.the-variants.{Movement, Mark, End}
@@ -94,6 +97,19 @@ fits-held l e = by l (passes-fits mostPorts l e)
     by (End marks) s = tt
 
 -- ---- words that are no line's
+
+-- a jack of an order is 0
+abbrev pub NoJack : Order → Type 0
+NoJack (Swap a b) = (a .0 ≡ 0) ⊎ (b .0 ≡ 0)
+NoJack (Turn a b c) = (a .0 ≡ 0) ⊎ (b .0 ≡ 0) ⊎ (c .0 ≡ 0)
+
+-- such an order is out of shape, so a number that no jack holds is refused as such
+pub jack-unfit : (n : ℕ) (o : Order) → NoJack o → lineFits n (Movement o) ≡ false
+jack-unfit n o z = either (test (lineFits n (Movement o))) (λ t. absurd (by o z (passes-fits n (Movement o) t))) (λ t. t)
+  where
+    by : (o : Order) → NoJack o → LineFits n (Movement o) → ⊥
+    by (Swap a b) z s = either z (λ e. omega arith) (λ e. omega arith)
+    by (Turn a b c) z s = either z (λ e. omega arith) (λ y. either y (λ e. omega arith) (λ e. omega arith))
 
 -- 'a kind that is no line's is refused as out of shape'
 pub none-unfit : (n : ℕ) → lineFits n (Movement (Swap (jackAt 0) (jackAt 0))) ≡ false

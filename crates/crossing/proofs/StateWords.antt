@@ -5,26 +5,22 @@ use mathlib.Core.Path.{_≡_, refl, sym, ap, _∙_}
 use mathlib.Core.Bool.{Bool, true, false, cond, true≢false}
 use mathlib.Core.List.{List, [], _∷_, _++_, map}
 use mathlib.Core.Option.{Option, none, some}
-use Prim.Native.Nat.{ℕ, zero, suc, _+_, _-_, _≤_, _<_}
+use Prim.Native.Nat.{ℕ, _+_, _-_, _≤_, _<_}
 use native.Mathlib.Omega.{arith}
-use lib.Dec.{eqb, leb}
+use lib.Dec.{eqb}
 use lib.IntN.{ℤ, pos}
-use lib.ListN.{length, getD, take, drop, replicate, length-append, length-map, List·getD-map}
-use lib.Seq.{take-at, drop-at}
-use mir.Syntax.{w64}
-use mir.Val.{SFits, boolByte}
-use borrow.Author.Tests.{le-leb}
-use Rattle.listing.specs.Limits.{mostPorts, mostLegs, largest64}
+use lib.ListN.{length, getD, take, drop, length-append, length-map, List·getD-map}
+use mir.Val.{boolByte}
+use Rattle.listing.specs.Limits.{mostPorts, mostLegs}
 use Rattle.listing.proofs.Numbers.{either, test}
 use Rattle.fitness.specs.declared.State.{State}
 use Rattle.fitness.proofs.Places.{Sized}
 use Rattle.crossing.specs.Lines.{largest8}
-use Rattle.crossing.specs.States.{stateCount, largest32, runBits, runIn, bit, lastWords, stateWords, limits, within, word, wordsAt, stateAt, stateIn}
+use Rattle.crossing.specs.States.{stateCount, runBits, runIn, bit, lastWords, stateWords, limits, within, word, wordsAt, stateAt, stateIn}
 use Rattle.crossing.specs.Held.{heldIs, WordsFit}
 use Rattle.crossing.specs.declared.states.Held.{Held}
-use Rattle.crossing.proofs.Parts.{past, inside, drop-past, run-at}
-use Rattle.crossing.proofs.Within.{within-length, within-at, within-parts, within-same}
-use Rattle.crossing.proofs.Runs.{bits-fit, all-bits-back, all-runs-back}
+use Rattle.crossing.proofs.Parts.{past, inside, run-at}
+use Rattle.crossing.proofs.Within.{within-length, within-at}
 
 -- ---- the words of a state, place by place
 

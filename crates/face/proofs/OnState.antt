@@ -7,7 +7,7 @@ use mathlib.Core.Option.{none, some}
 use Prim.Native.Nat.{ℕ}
 use lib.ListN.{length}
 use borrow.Author.Tests.{eq-eqb, ne-eqb}
-use Rattle.words.specs.Told.{Told, Spot, accepted, refused, nowhere, then, need, leaves}
+use Rattle.words.specs.Told.{Spot, accepted, refused, nowhere, then, leaves}
 use Rattle.words.specs.declared.Line.{Line}
 use Rattle.words.specs.declared.Line.the-variants.{Movement, Mark, End}
 use Rattle.words.specs.declared.Order.the-variants.{Swap, Turn}
@@ -30,7 +30,7 @@ module _ (c : Call) (ws : List ℕ) {s : State} (e : some s ≡ stateIn ws) wher
   -- what is told of the state
   pub on-told : toldOf (answerOf c s) ≡ calledTold c ws
   unfolding calledTold
-  on-told = ap (λ o. then (need 15 nowhere o) (λ x. toldOf (answerOf c x))) e
+  on-told = rw (← e) refl
 
   -- an accepted call leaves the words of the state that is left
   pub on-left : {a : model.Answer} {left : State} → accepted a ≡ calledTold c ws → left ≡ after c (answerOf c s) s → stateWords left ≡ calledWords c ws
@@ -52,7 +52,7 @@ refused-left c ws t = ap (λ x. leaves x (leftIn c (stateIn ws) ws) ws) t
 module _ (ws : List ℕ) (e : none ≡ stateIn ws) where
   pub off-told : (c : Call) → refused 15 nowhere ≡ calledTold c ws
   unfolding calledTold
-  off-told c = ap (λ o. then (need 15 nowhere o) (λ x. toldOf (answerOf c x))) e
+  off-told c = rw (← e) refl
 
   pub off-bytes : (buf : List ℕ) → buf ≡ requestBytes ws buf
   unfolding requestBytes

@@ -8,7 +8,7 @@ use lib.Dec.{eqb}
 use lib.ListN.{length}
 use Rattle.words.specs.Told.{Told, accepted, refused, nowhere, then, need, leaves}
 use Rattle.promise.specs.Campaign as model
-use Rattle.promise.specs.Campaign.{Call, request}
+use Rattle.promise.specs.Campaign.{Call}
 use Rattle.plans.specs.Calls.{readPlanOf}
 use Rattle.fitness.specs.declared.State.{State}
 use Rattle.campaign.specs.Calls.{answerOf, toldOf, leftOf, bytesOf, begunOf}
@@ -39,10 +39,10 @@ requestBytes ws buf = bytesIn (stateIn ws) buf
 
 -- ---- the beginning
 
--- 15, at no place, 'unless the state's length' is right; else how the text is judged
+-- 15, at no place, unless there are as many words as a state has; else how the text is judged
 unfoldable pub beginTold : List ℕ → List ℕ → Told (Unit {0})
 beginTold t ws = cond (eqb (length ws) stateCount) (then (readPlanOf t) (λ p. accepted tt)) (refused 15 nowhere)
 
--- the words of the first state, or 'a state all zeros'; with a wrong length those that were there
+-- the words of the first state, or 'a state all zeros'; with another length those that were there
 unfoldable pub beginWords : List ℕ → List ℕ → List ℕ
 beginWords t ws = cond (eqb (length ws) stateCount) (stateWords (begunOf t)) ws

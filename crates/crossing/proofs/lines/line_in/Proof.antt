@@ -1,10 +1,7 @@
 -- `crossing::lines::line_in`: the first word decides what the others mean.
 -- Assumes nothing.
-use mathlib.Core.Path.{_≡_, ap, _∙_}
+use mathlib.Core.Path.{_∙_}
 use borrow.Author.Needs.{needs}
-use Rattle.words.specs.declared.Jack.{Jack}
-use Rattle.words.specs.declared.Line.the-variants.{Movement}
-use Rattle.words.specs.declared.Order.the-variants.{Swap, Turn}
 use Rattle.crossing.proofs.LineWords.{swap-of, turn-of, from-swap, from-turn, from-mark, from-end, from-none}
 use Rattle.crossing.proofs.lines.line_in.Statement.{statement}
 use Rattle.crossing.proofs.lines.line_in.Tie as tie

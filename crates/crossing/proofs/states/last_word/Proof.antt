@@ -1,6 +1,6 @@
 -- `crossing::states::last_word`: one field for each number.
 -- Assumes nothing.
-use mathlib.Core.Path.{_≡_, sym, ap, _∙_}
+use mathlib.Core.Path.{_≡_, ap, _∙_}
 use native.Mathlib.Omega.{arith}
 use borrow.Author.Needs.{needs}
 use Rattle.crossing.specs.States.{lastWords, word}
