@@ -5,14 +5,15 @@ use mathlib.Core.Bool.{true}
 use mathlib.Core.List.{List}
 use Prim.Native.Nat.{ℕ}
 use lib.ListN.{length}
-use Rattle.words.specs.Told.{Told, Spot, refused, nowhere}
+use Rattle.words.specs.Told.{Told, Spot, accepted, refused, nowhere}
 use Rattle.words.specs.Meaning.{numberOf}
 use Rattle.words.specs.declared.Line.{Line}
 use Rattle.words.specs.declared.Line.the-variants.{Movement, Mark, End}
 use Rattle.words.specs.declared.Reason.{Reason}
 use Rattle.words.specs.declared.Place.the-variants.{Nowhere}
+use Rattle.words.proofs.Told.{not-both}
 use Rattle.promise.specs.Campaign as model
-use Rattle.promise.specs.Campaign.{Call, request, report, taken, refusal}
+use Rattle.promise.specs.Campaign.{Call, request, report, movement, mark, theEnd, taken, refusal}
 use Rattle.fitness.specs.State.{answerText, width, momentOf}
 use Rattle.fitness.specs.declared.State.{State}
 use Rattle.campaign.specs.Calls.{answerOf, toldOf, after, over, bytesOf, lineIs}
@@ -58,6 +59,21 @@ request-as c a b s r e h = subst (λ x. RequestIs c x s r) e h
 -- a refusal tells the same of any call
 pub retold : {A B : Type 0} (j k : ℕ) (p q : Spot) → _≡_ {A = Told A} (refused j p) (refused k q) → _≡_ {A = Told B} (refused j p) (refused k q)
 retold j k p q e = let n : j ≡ k = cc in let s : p ≡ q = cc in λ i. refused (n i) (s i)
+
+-- what is told is told of one answer
+pub told-given : (a : model.Answer) {b : model.Answer} → toldOf a ≡ accepted b → a ≡ b
+told-given (movement o) e = cc
+told-given (mark k r) e = cc
+told-given (theEnd k) e = cc
+told-given taken e = cc
+told-given (refusal k) e = absurd (not-both e)
+
+pub told-refused : (a : model.Answer) {k : ℕ} {p : Spot} → toldOf a ≡ refused k p → a ≡ refusal k
+told-refused (movement o) e = absurd (not-both (sym e))
+told-refused (mark j r) e = absurd (not-both (sym e))
+told-refused (theEnd j) e = absurd (not-both (sym e))
+told-refused taken e = absurd (not-both (sym e))
+told-refused (refusal j) {k} e = let n : j ≡ k = cc in ap refusal n
 
 -- what is left after a line does not depend on the room
 pub any-room : (l : Line) (room : ℕ) (s : State) → after (request 0) (lineIs l) s ≡ after (request room) (lineIs l) s

@@ -7,56 +7,61 @@ use mathlib.Core.Option.{none, some}
 use Prim.Native.Nat.{ℕ}
 use lib.ListN.{length}
 use borrow.Author.Tests.{eq-eqb, ne-eqb}
-use Rattle.words.specs.Told.{Spot, accepted, refused, nowhere, then, leaves}
+use Rattle.words.specs.Told.{Told, Spot, accepted, refused, nowhere, then, leaves}
 use Rattle.words.specs.declared.Line.{Line}
 use Rattle.words.specs.declared.Line.the-variants.{Movement, Mark, End}
 use Rattle.words.specs.declared.Order.the-variants.{Swap, Turn}
-use Rattle.words.proofs.Told.{not-both}
 use Rattle.promise.specs.Campaign as model
-use Rattle.promise.specs.Campaign.{Call, movement, mark, theEnd, taken, refusal}
+use Rattle.promise.specs.Campaign.{Call}
 use Rattle.plans.specs.Calls.{readPlanOf}
 use Rattle.fitness.specs.State.{width}
 use Rattle.fitness.specs.declared.State.{State}
-use Rattle.campaign.specs.Calls.{answerOf, toldOf, after, leftOf, bytesOf, begunOf, lineIs}
+use Rattle.campaign.specs.Calls.{answerOf, toldOf, after, leftOf, begunOf, lineIs}
+use Rattle.campaign.proofs.Tells.{told-given}
 use Rattle.crossing.specs.Answers.{five}
 use Rattle.crossing.specs.Lines.{lineWords}
 use Rattle.crossing.specs.States.{stateCount, stateWords, stateIn}
 use Rattle.face.specs.Values.{orderAndBytes}
-use Rattle.face.specs.Calls.{calledTold, leftIn, calledWords, bytesIn, requestBytes, beginTold, beginWords}
+use Rattle.face.specs.Calls.{onState, leftIn, stateLeft, bytesIn, stateBytes, beginTold, beginWords}
 
 -- ---- words that are a state
 
-module _ (c : Call) (ws : List ℕ) {s : State} (e : some s ≡ stateIn ws) where
+module _ {A : Type 0} (f : State → Told A) (ws : List ℕ) {s : State} (e : some s ≡ stateIn ws) where
   -- what is told of the state
-  pub on-told : toldOf (answerOf c s) ≡ calledTold c ws
-  unfolding calledTold
+  pub on-told : f s ≡ onState f ws
+  unfolding onState
   on-told = rw (← e) refl
 
   -- an accepted call leaves the words of the state that is left
-  pub on-left : {a : model.Answer} {left : State} → accepted a ≡ calledTold c ws → left ≡ after c (answerOf c s) s → stateWords left ≡ calledWords c ws
-  unfolding calledWords leftOf
-  on-left {a} t l = ap stateWords l ∙ ap (λ o. leftIn c o ws) e ∙ ap (λ x. leaves x (leftIn c (stateIn ws) ws) ws) t
+  pub on-left : (g : State → State) {a : A} {left : State} → accepted a ≡ onState f ws → left ≡ g s → stateWords left ≡ stateLeft f g ws
+  unfolding stateLeft
+  on-left g {a} t l = ap stateWords l ∙ ap (λ o. leftIn g o ws) e ∙ ap (λ x. leaves x (leftIn g (stateIn ws) ws) ws) t
 
-  -- and of its buffer
-  pub on-bytes : (buf : List ℕ) → bytesOf s buf ≡ requestBytes ws buf
-  unfolding requestBytes
-  on-bytes buf = ap (λ o. bytesIn o buf) e
+-- and of its buffer
+pub on-bytes : (h : State → List ℕ → List ℕ) (ws : List ℕ) {s : State} → some s ≡ stateIn ws → (buf : List ℕ) → h s buf ≡ stateBytes h ws buf
+unfolding stateBytes
+on-bytes h ws e buf = ap (λ o. bytesIn h o buf) e
 
 -- a refused call leaves the words that were there
-pub refused-left : (c : Call) (ws : List ℕ) {k : ℕ} {p : Spot} → refused k p ≡ calledTold c ws → ws ≡ calledWords c ws
-unfolding calledWords
-refused-left c ws t = ap (λ x. leaves x (leftIn c (stateIn ws) ws) ws) t
+pub refused-left : {A : Type 0} (f : State → Told A) (g : State → State) (ws : List ℕ) {k : ℕ} {p : Spot} → refused k p ≡ onState f ws → ws ≡ stateLeft f g ws
+unfolding stateLeft
+refused-left f g ws t = ap (λ x. leaves x (leftIn g (stateIn ws) ws) ws) t
+
+-- the state that a call of a campaign leaves
+pub left-so : (c : Call) (s : State) {left : State} → left ≡ after c (answerOf c s) s → left ≡ leftOf c s
+unfolding leftOf
+left-so c s e = e
 
 -- ---- words that are none
 
 module _ (ws : List ℕ) (e : none ≡ stateIn ws) where
-  pub off-told : (c : Call) → refused 15 nowhere ≡ calledTold c ws
-  unfolding calledTold
-  off-told c = rw (← e) refl
+  pub off-told : {A : Type 0} (f : State → Told A) → refused 15 nowhere ≡ onState f ws
+  unfolding onState
+  off-told f = rw (← e) refl
 
-  pub off-bytes : (buf : List ℕ) → buf ≡ requestBytes ws buf
-  unfolding requestBytes
-  off-bytes buf = ap (λ o. bytesIn o buf) e
+  pub off-bytes : (h : State → List ℕ → List ℕ) (buf : List ℕ) → buf ≡ stateBytes h ws buf
+  unfolding stateBytes
+  off-bytes h buf = ap (λ o. bytesIn h o buf) e
 
 -- ---- the line of an order
 
@@ -67,17 +72,9 @@ shown-words (Movement (Turn a b c)) bytes e = ap (λ n. five (lineWords (Movemen
 shown-words (Mark number rank) bytes e = ap (λ n. five (lineWords (Mark number rank) ++ (n ∷ []))) e
 shown-words (End marks) bytes e = ap (λ n. five (lineWords (End marks) ++ (n ∷ []))) e
 
--- an answer that is told as accepted is that answer
-told-is : (a : model.Answer) {b : model.Answer} → accepted b ≡ toldOf a → a ≡ b
-told-is (movement o) e = cc
-told-is (mark k r) e = cc
-told-is (theEnd k) e = cc
-told-is taken e = cc
-told-is (refusal k) e = absurd (not-both (sym e))
-
--- so its line is as long as the answer's
+-- the line of an accepted answer is as long as the answer's
 pub line-width : (a : model.Answer) (l : Line) {bytes : ℕ} → bytes ≡ width a → accepted (lineIs l) ≡ toldOf a → bytes ≡ width (lineIs l)
-line-width a l e t = e ∙ ap width (told-is a t)
+line-width a l e t = e ∙ ap width (told-given a (sym t))
 
 -- ---- the beginning
 

@@ -16,8 +16,8 @@ use Rattle.lines.specs.Calls.{writeOf, writeBytes}
 use Rattle.lines.specs.Reading.{readOf}
 use Rattle.crossing.specs.Answers.{numberTold, wordsTold}
 use Rattle.crossing.specs.Lines.{moveWords, lineIn}
-use Rattle.face.specs.Values.{nothing, oneNumber, lineAndPlace, orderAndBytes}
-use Rattle.face.specs.Calls.{calledTold, calledWords, requestBytes, beginTold, beginWords}
+use Rattle.face.specs.Values.{nothing, oneNumber, lineAndPlace, orderAndBytes, bytesAndEnd}
+use Rattle.face.specs.Calls.{calledTold, calledWords, requestBytes, ordersTold, ordersWords, ordersBytes, beginTold, beginWords}
 
 -- what a call answers and leaves: its number, the words of the answer, and the contents of each lent slice that it may change
 pub record Result : Type 0 where
@@ -95,3 +95,6 @@ only-request ws buf = only orderAndBytes (calledTold (request (length buf)) ws) 
 
 pub only-report : (ws : List ℕ) (kind : ℕ) → Only nothing (calledTold (report kind) ws) (calledWords (report kind) ws ∷ [])
 only-report ws kind = only nothing (calledTold (report kind) ws) (calledWords (report kind) ws ∷ [])
+
+pub only-orders : (ws buf : List ℕ) → Only bytesAndEnd (ordersTold (length buf) ws) (ordersWords (length buf) ws ∷ ordersBytes ws buf ∷ [])
+only-orders ws buf = only bytesAndEnd (ordersTold (length buf) ws) (ordersWords (length buf) ws ∷ ordersBytes ws buf ∷ [])

@@ -1,6 +1,7 @@
 -- The values that an accepted call gives, in words, as include/jidrofex.h names them at each call. The zeros after them are the answer's.
 -- Assumes nothing.
 use Prim.Native.Nat.{ℕ}
+use mathlib.Core.Bool.{Bool}
 use mathlib.Core.List.{List, [], _∷_, _++_}
 use mathlib.Core.Option.{Option, none, some}
 use lib.ListN.{length}
@@ -9,6 +10,7 @@ use Rattle.promise.specs.Campaign as model
 use Rattle.lines.specs.Format.{lineText}
 use Rattle.fitness.specs.State.{answerLine}
 use Rattle.crossing.specs.Lines.{lineWords}
+use Rattle.crossing.specs.States.{bit}
 
 -- 'Gives nothing'
 abbrev pub nothing : {A : Type 0} → A → List ℕ
@@ -30,3 +32,7 @@ writtenLine (some l) = lineWords l ++ (length (lineText l) ∷ [])
 -- 'Gives the line's four words and how many bytes it takes', of the answer to a request
 abbrev pub orderAndBytes : model.Answer → List ℕ
 orderAndBytes a = writtenLine (answerLine a)
+
+-- 'Gives how many bytes they take, and 1 if the end is among them'
+abbrev pub bytesAndEnd : ℕ × Bool → List ℕ
+bytesAndEnd x = x .0 ∷ bit (x .1) ∷ []

@@ -8,6 +8,8 @@ use crossing::lines::give_line;
 use crossing::states::state_in;
 use crossing::states::state_out;
 use plans::Judged;
+use printing::Filled;
+use printing::fill;
 use words::Line;
 use words::Reason;
 use words::Refusal;
@@ -17,9 +19,9 @@ ghost use lib.ListN.{length};
 ghost use Rattle.promise.specs.Campaign.{request, report};
 ghost use Rattle.campaign.specs.Answers.{answerTold};
 ghost use Rattle.crossing.specs.Answers.{numberTold, wordsTold};
-ghost use Rattle.face.specs.Values.{nothing, orderAndBytes};
+ghost use Rattle.face.specs.Values.{nothing, orderAndBytes, bytesAndEnd};
 ghost use Rattle.face.specs.Shown.{shownTold};
-ghost use Rattle.face.specs.Calls.{calledTold, calledWords, requestBytes, beginTold, beginWords};
+ghost use Rattle.face.specs.Calls.{calledTold, calledWords, requestBytes, ordersTold, ordersWords, ordersBytes, beginTold, beginWords};
 
 // The first state of the plan that the text is.
 #[no_mangle]
@@ -108,6 +110,37 @@ pub extern "C" fn jidrofex_report(state: &mut [u64], kind: u8, answer: &mut [u64
             Heard::Taken => {
                 state_out(left.state, state);
                 give(answer, 0, 0, 0, 0, 0)
+            }
+        }
+    } else {
+        refuse(nowhere(Reason::Unfit), answer)
+    }
+}
+
+// As many whole lines as fit the buffer, every mark taken as run.
+#[no_mangle]
+pub extern "C" fn jidrofex_orders(state: &mut [u64], buffer: &mut [u8], answer: &mut [u64; 5]) -> u8
+    ensures number { λ r. ⌜ r ≡ numberTold (ordersTold (length (now (buffer .entry))) (now (state .entry))) ⌝ }
+    ensures words { λ _. ⌜ now (answer .exit) ≡ wordsTold bytesAndEnd (ordersTold (length (now (buffer .entry))) (now (state .entry))) ⌝ }
+    ensures left { λ _. ⌜ now (state .exit) ≡ ordersWords (length (now (buffer .entry))) (now (state .entry)) ⌝ }
+    ensures bytes { λ _. ⌜ now (buffer .exit) ≡ ordersBytes (now (state .entry)) (now (buffer .entry)) ⌝ }
+{
+    let held = state_in(state);
+    if held.fit {
+        let s = held.state;
+        let campaign = Campaign { state: s };
+        let printed = fill(campaign, buffer);
+        let left = printed.campaign;
+        let filled = printed.filled;
+        match filled {
+            Filled::Refused(f) => refuse(f, answer),
+            Filled::Lines(n) => {
+                state_out(left.state, state);
+                give(answer, n as u64, 0, 0, 0, 0)
+            }
+            Filled::Ended(n) => {
+                state_out(left.state, state);
+                give(answer, n as u64, 1, 0, 0, 0)
             }
         }
     } else {

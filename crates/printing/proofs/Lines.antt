@@ -21,25 +21,9 @@ use Rattle.promise.specs.Campaign.{request, movement, mark, theEnd, taken, refu
 use Rattle.fitness.specs.State.{answerText, width, settingOf, momentOf}
 use Rattle.fitness.specs.Fitness.{placesFit}
 use Rattle.fitness.specs.declared.State.{State}
-use Rattle.campaign.specs.Calls.{answerOf, toldOf}
+use Rattle.campaign.specs.Calls.{answerOf}
 use Rattle.printing.specs.Printing.{sequel, more, Printout, inFront, onward, linesFrom, linesIn}
 use Rattle.printing.specs.Answers.{stopTold, fillOf}
-
--- ---- an answer by what it tells
-
-pub told-given : (a b : model.Answer) → toldOf a ≡ accepted b → a ≡ b
-told-given (movement o) b e = cc
-told-given (mark k r) b e = cc
-told-given (theEnd k) b e = cc
-told-given taken b e = cc
-told-given (refusal k) b e = absurd (true≢false (cc))
-
-pub told-refused : (a : model.Answer) (k : ℕ) (p : Spot) → toldOf a ≡ refused k p → a ≡ refusal k
-told-refused (movement o) k p e = absurd (true≢false (cc))
-told-refused (mark j r) k p e = absurd (true≢false (cc))
-told-refused (theEnd j) k p e = absurd (true≢false (cc))
-told-refused taken k p e = absurd (true≢false (cc))
-told-refused (refusal j) k p e = let n : j ≡ k = cc in ap refusal n
 
 -- ---- the width of a line
 

@@ -8,8 +8,8 @@ use Rattle.promise.specs.Campaign.{request, movement, mark, theEnd, refusal}
 use Rattle.words.specs.Meaning.{orderOf, numberOf, spotOf}
 use Rattle.campaign.specs.Answers.{answerTold}
 use Rattle.campaign.specs.Calls.{toldOf}
-use Rattle.campaign.proofs.Tells.{retold}
-use Rattle.printing.proofs.Lines.{told-given, told-refused, within-room}
+use Rattle.campaign.proofs.Tells.{told-given, told-refused, retold}
+use Rattle.printing.proofs.Lines.{within-room}
 use Rattle.printing.proofs.Parts.{part-asked, part-bytes, given-as, ran-left}
 use Rattle.printing.proofs.request_line.Statement.{statement}
 use Rattle.printing.proofs.request_line.Tie as tie
@@ -27,7 +27,7 @@ returns c =
     let w = c .before .before .before .before .before .before in
     let s = w .before .before .before in
     let R = part-asked (s .args .c .state) (s .args .buf .now) (s .args .at) (s .pre) (w .request .result) (w .request .ensures .0) in
-    let e = told-given _ _ (sym (R .answer) ∙ ap answerTold (c .enum-told .given .1)) in (
+    let e = told-given _ (sym (R .answer) ∙ ap answerTold (c .enum-told .given .1)) in (
       given-as (s .args .c .state) (s .args .buf .now) (s .args .at) (s .pre) _ (w .request .result) _ R e refl refl refl,
       part-bytes (s .args .c .state) (s .args .buf .now) (s .args .at) (s .pre) _ (w .request .ensures .1),
     )
@@ -37,7 +37,7 @@ returns-2 c =
     let w = c .before .before .before .before .before .before .before .before in
     let s = w .before .before .before in
     let R = part-asked (s .args .c .state) (s .args .buf .now) (s .args .at) (s .pre) (w .request .result) (w .request .ensures .0) in
-    let e = told-given _ _ (sym (R .answer) ∙ ap answerTold (c .before .before .enum-told2 .given .1)) in (
+    let e = told-given _ (sym (R .answer) ∙ ap answerTold (c .before .before .enum-told2 .given .1)) in (
       given-as (s .args .c .state) (s .args .buf .now) (s .args .at) (s .pre) _ (w .request .result) _ R e refl (ran-left _ _ (c .before .report .ensures)) refl,
       part-bytes (s .args .c .state) (s .args .buf .now) (s .args .at) (s .pre) _ (w .request .ensures .1),
     )
@@ -47,7 +47,7 @@ returns-3 c =
     let w = c .before .before .before .before .before .before in
     let s = w .before .before .before in
     let R = part-asked (s .args .c .state) (s .args .buf .now) (s .args .at) (s .pre) (w .request .result) (w .request .ensures .0) in
-    let e = told-given _ _ (sym (R .answer) ∙ ap answerTold (c .enum-told3 .given .1)) in (
+    let e = told-given _ (sym (R .answer) ∙ ap answerTold (c .enum-told3 .given .1)) in (
       given-as (s .args .c .state) (s .args .buf .now) (s .args .at) (s .pre) _ (w .request .result) _ R e refl refl refl,
       part-bytes (s .args .c .state) (s .args .buf .now) (s .args .at) (s .pre) _ (w .request .ensures .1),
     )
@@ -58,7 +58,7 @@ returns-4 c =
     let s = w .before .before .before in
     let R = part-asked (s .args .c .state) (s .args .buf .now) (s .args .at) (s .pre) (w .request .result) (w .request .ensures .0) in
     let t = ap answerTold (sym (c .before .answer .given .1)) ∙ R .answer in
-    let e = told-refused _ _ _ (sym t) in (
+    let e = told-refused _ (sym t) in (
       given-as (s .args .c .state) (s .args .buf .now) (s .args .at) (s .pre) _ (w .request .result) _ R e (retold _ _ _ _ (t ∙ ap toldOf e)) refl refl,
       part-bytes (s .args .c .state) (s .args .buf .now) (s .args .at) (s .pre) _ (w .request .ensures .1),
     )

@@ -13,4 +13,4 @@ returns c =
     (c .reason-number .ensures, g .give .ensures .1 ∙ ap (λ p. five (p ∷ [])) (g .before .place-number .ensures))
 
 pub refuse-spec : {M : Type 1} → statement M
-refuse-spec = tie.close (tie.spec (λ c κs. search needs) (λ c κs. search needs) (λ c κs. search needs) returns)
+refuse-spec = tie.close (tie.spec (λ c κs. search needs) (λ c. search needs) (λ c κs. search needs) (λ c κs. search needs) returns)

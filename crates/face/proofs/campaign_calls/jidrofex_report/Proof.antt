@@ -6,11 +6,13 @@ use borrow.Author.Needs.{needs}
 use Rattle.words.specs.Meaning.{refusalOf}
 use Rattle.promise.specs.Campaign.{report}
 use Rattle.campaign.specs.Answers.{heardTold}
+use Rattle.campaign.specs.Calls.{leftOf}
 use Rattle.crossing.specs.States.{stateIn}
 use Rattle.crossing.proofs.StateWords.{held-state, held-none, state-length}
 use Rattle.face.specs.Values.{nothing}
+use Rattle.face.specs.Calls.{toldBy}
 use Rattle.face.proofs.Tells.{tells}
-use Rattle.face.proofs.OnState.{on-told, on-left, refused-left, off-told}
+use Rattle.face.proofs.OnState.{on-told, on-left, refused-left, left-so, off-told}
 use Rattle.face.proofs.campaign_calls.jidrofex_report.Statement.{statement}
 use Rattle.face.proofs.campaign_calls.jidrofex_report.Tie as tie
 
@@ -29,9 +31,9 @@ returns c =
     let r = m .before .before .before in
     let i = r .before .before in
     let a = i .before .before .before .before .args in
-    let e = r .report .ensures .answer ∙ on-told (report (a .kind)) (a .state .now) (is i) in
+    let e = r .report .ensures .answer ∙ on-told (toldBy (report (a .kind))) (a .state .now) (is i) in
     let t = tells nothing heardTold (m .heard .given .1) e (c .refuse .ensures) in
-    (t .0, (t .1, refused-left (report (a .kind)) (a .state .now) (ap heardTold (sym (m .heard .given .1)) ∙ e)))
+    (t .0, (t .1, refused-left (toldBy (report (a .kind))) (leftOf (report (a .kind))) (a .state .now) (ap heardTold (sym (m .heard .given .1)) ∙ e)))
 
 returns-2 : tie.Need-returns-2
 returns-2 c =
@@ -40,13 +42,14 @@ returns-2 c =
     let r = m .before .before .before in
     let i = r .before .before in
     let a = i .before .before .before .before .args in
-    let e = r .report .ensures .answer ∙ on-told (report (a .kind)) (a .state .now) (is i) in
+    let e = r .report .ensures .answer ∙ on-told (toldBy (report (a .kind))) (a .state .now) (is i) in
     let t = tells nothing heardTold (m .enum-told .given .1) e (c .give .ensures) in (
       t .0,
       (
         t .1,
         o .state-out .ensures
-            ∙ on-left (report (a .kind)) (a .state .now) (is i) (ap heardTold (sym (m .enum-told .given .1)) ∙ e) (r .report .ensures .state),
+            ∙ on-left (toldBy (report (a .kind))) (a .state .now) (is i) (leftOf (report (a .kind))) (ap heardTold (sym (m .enum-told .given .1)) ∙ e)
+            (left-so (report (a .kind)) _ (r .report .ensures .state)),
       ),
     )
 
@@ -55,9 +58,9 @@ returns-3 c =
     let n = c .before .before in
     let h = n .before .before in
     let a = h .before .before .before .args in
-    let e = off-told (a .state .now) (held-none (h .state-in .result) (h .state-in .ensures) (n .before .if1 .left)) (report (a .kind)) in
+    let e = off-told (a .state .now) (held-none (h .state-in .result) (h .state-in .ensures) (n .before .if1 .left)) (toldBy (report (a .kind))) in
     let t = tells nothing refusalOf {r = n .nowhere .result} refl (ap refusalOf (n .nowhere .ensures) ∙ e) (c .refuse2 .ensures) in
-    (t .0, (t .1, refused-left (report (a .kind)) (a .state .now) e))
+    (t .0, (t .1, refused-left (toldBy (report (a .kind))) (leftOf (report (a .kind))) (a .state .now) e))
 
 pub jidrofex-report-spec : {M : Type 1} → statement M
 jidrofex-report-spec =

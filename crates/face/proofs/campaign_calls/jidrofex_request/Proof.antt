@@ -6,13 +6,14 @@ use lib.ListN.{length}
 use borrow.Author.Needs.{needs}
 use Rattle.words.specs.Meaning.{refusalOf}
 use Rattle.promise.specs.Campaign.{request}
-use Rattle.campaign.specs.Calls.{answerOf}
+use Rattle.campaign.specs.Calls.{answerOf, leftOf, bytesOf}
 use Rattle.crossing.specs.States.{stateIn}
 use Rattle.crossing.proofs.StateWords.{held-state, held-none, state-length}
 use Rattle.face.specs.Values.{orderAndBytes}
 use Rattle.face.specs.Shown.{shownTold}
+use Rattle.face.specs.Calls.{toldBy}
 use Rattle.face.proofs.Tells.{tells}
-use Rattle.face.proofs.OnState.{on-told, on-left, on-bytes, refused-left, off-told, off-bytes, shown-words, line-width}
+use Rattle.face.proofs.OnState.{on-told, on-left, on-bytes, refused-left, left-so, off-told, off-bytes, shown-words, line-width}
 use Rattle.face.proofs.campaign_calls.jidrofex_request.Statement.{statement}
 use Rattle.face.proofs.campaign_calls.jidrofex_request.Tie as tie
 
@@ -33,10 +34,10 @@ returns c =
     let i = r .before .before .before in
     let a = i .before .before .before .before .before .args in
     let call = request (length (a .buffer .now)) in
-    let e = l .line-of .ensures ∙ r .request .ensures .0 .answer ∙ on-told call (a .state .now) (is i) in
+    let e = l .line-of .ensures ∙ r .request .ensures .0 .answer ∙ on-told (toldBy call) (a .state .now) (is i) in
     let t = tells orderAndBytes shownTold (m .f .given .1) e (c .refuse .ensures) in
-    let left = refused-left call (a .state .now) (ap shownTold (sym (m .f .given .1)) ∙ e) in
-    (t .0, (t .1, (left, r .request .ensures .1 ∙ on-bytes call (a .state .now) (is i) (a .buffer .now))))
+    let left = refused-left (toldBy call) (leftOf call) (a .state .now) (ap shownTold (sym (m .f .given .1)) ∙ e) in
+    (t .0, (t .1, (left, r .request .ensures .1 ∙ on-bytes bytesOf (a .state .now) (is i) (a .buffer .now))))
 
 returns-2 : tie.Need-returns-2
 returns-2 c =
@@ -49,14 +50,14 @@ returns-2 c =
     let call = request (length (a .buffer .now)) in
     let q = r .request .ensures .0 in
     let asked = l .line-of .ensures ∙ q .answer in
-    let e = asked ∙ on-told call (a .state .now) (is i) in
+    let e = asked ∙ on-told (toldBy call) (a .state .now) (is i) in
     let here = ap shownTold (sym (m .line .given .1)) in
     let line = m .line .given .0 .0 in
     let long = line-width (answerOf call (i .before .state-in .result .state)) line (q .written) (here ∙ asked) in
     let words = c .give-line .ensures .1 ∙ shown-words line _ long in
     let t = tells orderAndBytes shownTold (m .line .given .1) e (c .give-line .ensures .0, words) in
-    let left = o .state-out .ensures ∙ on-left call (a .state .now) (is i) (here ∙ e) (q .state) in
-    (t .0, (t .1, (left, r .request .ensures .1 ∙ on-bytes call (a .state .now) (is i) (a .buffer .now))))
+    let left = o .state-out .ensures ∙ on-left (toldBy call) (a .state .now) (is i) (leftOf call) (here ∙ e) (left-so call _ (q .state)) in
+    (t .0, (t .1, (left, r .request .ensures .1 ∙ on-bytes bytesOf (a .state .now) (is i) (a .buffer .now))))
 
 returns-3 : tie.Need-returns-3
 returns-3 c =
@@ -65,9 +66,9 @@ returns-3 c =
     let a = h .before .before .before .before .args in
     let call = request (length (a .buffer .now)) in
     let no = held-none (h .state-in .result) (h .state-in .ensures) (n .before .if1 .left) in
-    let e = off-told (a .state .now) no call in
+    let e = off-told (a .state .now) no (toldBy call) in
     let t = tells orderAndBytes refusalOf {r = n .nowhere .result} refl (ap refusalOf (n .nowhere .ensures) ∙ e) (c .refuse2 .ensures) in
-    (t .0, (t .1, (refused-left call (a .state .now) e, off-bytes (a .state .now) no (a .buffer .now))))
+    (t .0, (t .1, (refused-left (toldBy call) (leftOf call) (a .state .now) e, off-bytes (a .state .now) no bytesOf (a .buffer .now))))
 
 pub jidrofex-request-spec : {M : Type 1} → statement M
 jidrofex-request-spec =
