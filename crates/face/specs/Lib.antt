@@ -1,3 +1,1 @@
-pub mod Values
-pub mod Calls
 pub mod Shown

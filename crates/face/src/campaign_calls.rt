@@ -19,9 +19,9 @@ ghost use lib.ListN.{length};
 ghost use Rattle.promise.specs.Campaign.{request, report};
 ghost use Rattle.campaign.specs.Answers.{answerTold};
 ghost use Rattle.crossing.specs.Answers.{numberTold, wordsTold};
-ghost use Rattle.face.specs.Values.{nothing, orderAndBytes, bytesAndEnd};
+ghost use Rattle.facing.specs.Values.{nothing, orderAndBytes, bytesAndEnd};
 ghost use Rattle.face.specs.Shown.{shownTold};
-ghost use Rattle.face.specs.Calls.{calledTold, calledWords, requestBytes, ordersTold, ordersWords, ordersBytes, beginTold, beginWords};
+ghost use Rattle.facing.specs.Calls.{calledTold, calledWords, requestBytes, ordersTold, ordersWords, ordersBytes, beginTold, beginWords};
 
 // The first state of the plan that the text is.
 #[no_mangle]

@@ -13,7 +13,7 @@ ghost use Rattle.lines.specs.Calls.{writeOf, writeBytes};
 ghost use Rattle.lines.specs.Reading.{readOf};
 ghost use Rattle.crossing.specs.Answers.{numberTold, wordsTold};
 ghost use Rattle.crossing.specs.Lines.{lineIn};
-ghost use Rattle.face.specs.Values.{oneNumber, lineAndPlace};
+ghost use Rattle.facing.specs.Values.{oneNumber, lineAndPlace};
 
 // A line written at the front of the buffer.
 #[no_mangle]

@@ -15,7 +15,7 @@ ghost use Rattle.listing.specs.Limits.{mostPorts};
 ghost use Rattle.panel.specs.Calls.{portOf, jackOf, carryOf, carryBytes};
 ghost use Rattle.crossing.specs.Answers.{numberTold, wordsTold};
 ghost use Rattle.crossing.specs.Lines.{lineIn};
-ghost use Rattle.face.specs.Values.{nothing, oneNumber};
+ghost use Rattle.facing.specs.Values.{nothing, oneNumber};
 
 // The port at a jack.
 #[no_mangle]

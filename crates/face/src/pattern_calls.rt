@@ -23,7 +23,7 @@ ghost use Rattle.checks.specs.Calls.{checkAs};
 ghost use Rattle.patterns.specs.Calls.{countOf, rankOf, unrankOf, unrankBytes, besideOf, besideBytes, stepOf};
 ghost use Rattle.crossing.specs.Answers.{numberTold, wordsTold};
 ghost use Rattle.crossing.specs.Lines.{moveWords};
-ghost use Rattle.face.specs.Values.{nothing, oneNumber};
+ghost use Rattle.facing.specs.Values.{nothing, oneNumber};
 
 // Whether it is a pattern.
 #[no_mangle]

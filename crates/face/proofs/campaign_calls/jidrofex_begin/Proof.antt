@@ -5,9 +5,9 @@ use borrow.Author.Needs.{needs}
 use Rattle.words.specs.Meaning.{refusalOf}
 use Rattle.plans.specs.Answers.{judgedTold}
 use Rattle.crossing.specs.States.{stateWords}
-use Rattle.face.specs.Values.{nothing}
-use Rattle.face.proofs.Tells.{tells}
-use Rattle.face.proofs.OnState.{begin-right, begin-wrong}
+use Rattle.facing.specs.Values.{nothing}
+use Rattle.facing.proofs.Tells.{tells}
+use Rattle.facing.proofs.OnState.{begin-right, begin-wrong}
 use Rattle.face.proofs.campaign_calls.jidrofex_begin.Statement.{statement}
 use Rattle.face.proofs.campaign_calls.jidrofex_begin.Tie as tie
 

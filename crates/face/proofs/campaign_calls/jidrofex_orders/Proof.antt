@@ -12,10 +12,10 @@ use Rattle.words.specs.Meaning.{refusalOf}
 use Rattle.printing.specs.Answers.{filledTold, fillOf, fillBytes}
 use Rattle.crossing.specs.States.{stateWords, stateIn}
 use Rattle.crossing.proofs.StateWords.{held-state, held-none, state-length}
-use Rattle.face.specs.Values.{bytesAndEnd}
-use Rattle.face.specs.Calls.{ordersTold, ordersLeft, ordersWords, ordersBytes}
-use Rattle.face.proofs.Tells.{tells}
-use Rattle.face.proofs.OnState.{on-told, on-left, on-bytes, refused-left, off-told, off-bytes}
+use Rattle.facing.specs.Values.{bytesAndEnd}
+use Rattle.facing.specs.Calls.{ordersTold, ordersLeft, ordersWords, ordersBytes}
+use Rattle.facing.proofs.Tells.{tells}
+use Rattle.facing.proofs.OnState.{on-told, on-left, on-bytes, refused-left, off-told, off-bytes}
 use Rattle.face.proofs.campaign_calls.jidrofex_orders.Statement.{statement}
 use Rattle.face.proofs.campaign_calls.jidrofex_orders.Tie as tie
 

@@ -9,10 +9,10 @@ use Rattle.campaign.specs.Answers.{heardTold}
 use Rattle.campaign.specs.Calls.{leftOf}
 use Rattle.crossing.specs.States.{stateIn}
 use Rattle.crossing.proofs.StateWords.{held-state, held-none, state-length}
-use Rattle.face.specs.Values.{nothing}
-use Rattle.face.specs.Calls.{toldBy}
-use Rattle.face.proofs.Tells.{tells}
-use Rattle.face.proofs.OnState.{on-told, on-left, refused-left, left-so, off-told}
+use Rattle.facing.specs.Values.{nothing}
+use Rattle.facing.specs.Calls.{toldBy}
+use Rattle.facing.proofs.Tells.{tells}
+use Rattle.facing.proofs.OnState.{on-told, on-left, refused-left, left-so, off-told}
 use Rattle.face.proofs.campaign_calls.jidrofex_report.Statement.{statement}
 use Rattle.face.proofs.campaign_calls.jidrofex_report.Tie as tie
 

@@ -9,11 +9,11 @@ use Rattle.promise.specs.Campaign.{request}
 use Rattle.campaign.specs.Calls.{answerOf, leftOf, bytesOf}
 use Rattle.crossing.specs.States.{stateIn}
 use Rattle.crossing.proofs.StateWords.{held-state, held-none, state-length}
-use Rattle.face.specs.Values.{orderAndBytes}
+use Rattle.facing.specs.Values.{orderAndBytes}
 use Rattle.face.specs.Shown.{shownTold}
-use Rattle.face.specs.Calls.{toldBy}
-use Rattle.face.proofs.Tells.{tells}
-use Rattle.face.proofs.OnState.{on-told, on-left, on-bytes, refused-left, left-so, off-told, off-bytes, shown-words, line-width}
+use Rattle.facing.specs.Calls.{toldBy}
+use Rattle.facing.proofs.Tells.{tells}
+use Rattle.facing.proofs.OnState.{on-told, on-left, on-bytes, refused-left, left-so, off-told, off-bytes, shown-words, line-width}
 use Rattle.face.proofs.campaign_calls.jidrofex_request.Statement.{statement}
 use Rattle.face.proofs.campaign_calls.jidrofex_request.Tie as tie
 

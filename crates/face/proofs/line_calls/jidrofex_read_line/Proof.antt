@@ -2,8 +2,8 @@
 -- Assumes nothing.
 use borrow.Author.Needs.{needs}
 use Rattle.reading.specs.Answers.{readTold}
-use Rattle.face.specs.Values.{lineAndPlace}
-use Rattle.face.proofs.Tells.{tells}
+use Rattle.facing.specs.Values.{lineAndPlace}
+use Rattle.facing.proofs.Tells.{tells}
 use Rattle.face.proofs.line_calls.jidrofex_read_line.Statement.{statement}
 use Rattle.face.proofs.line_calls.jidrofex_read_line.Tie as tie
 

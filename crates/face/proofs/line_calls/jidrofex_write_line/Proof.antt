@@ -5,8 +5,8 @@ use borrow.Author.Needs.{needs}
 use Rattle.listing.specs.Limits.{mostPorts}
 use Rattle.lines.specs.Calls.{writeOf, writeBytes}
 use Rattle.writing.specs.Answers.{writtenTold}
-use Rattle.face.specs.Values.{oneNumber}
-use Rattle.face.proofs.Tells.{tells}
+use Rattle.facing.specs.Values.{oneNumber}
+use Rattle.facing.proofs.Tells.{tells}
 use Rattle.face.proofs.line_calls.jidrofex_write_line.Statement.{statement}
 use Rattle.face.proofs.line_calls.jidrofex_write_line.Tie as tie
 

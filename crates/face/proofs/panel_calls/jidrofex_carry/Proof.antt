@@ -5,8 +5,8 @@ use borrow.Author.Needs.{needs}
 use Rattle.listing.specs.Limits.{mostPorts}
 use Rattle.panel.specs.Calls.{carryOf, carryBytes}
 use Rattle.panel.specs.Answers.{carriedTold}
-use Rattle.face.specs.Values.{nothing}
-use Rattle.face.proofs.Tells.{tells}
+use Rattle.facing.specs.Values.{nothing}
+use Rattle.facing.proofs.Tells.{tells}
 use Rattle.face.proofs.panel_calls.jidrofex_carry.Statement.{statement}
 use Rattle.face.proofs.panel_calls.jidrofex_carry.Tie as tie
 

@@ -3,7 +3,7 @@
 use borrow.Author.Needs.{needs}
 use Rattle.patterns.specs.Answers.{movedTold}
 use Rattle.crossing.specs.Lines.{moveWords}
-use Rattle.face.proofs.Tells.{tells}
+use Rattle.facing.proofs.Tells.{tells}
 use Rattle.face.proofs.pattern_calls.jidrofex_next.Statement.{statement}
 use Rattle.face.proofs.pattern_calls.jidrofex_next.Tie as tie
 

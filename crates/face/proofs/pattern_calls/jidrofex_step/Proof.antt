@@ -7,8 +7,8 @@ use borrow.Author.Needs.{needs}
 use Rattle.listing.specs.Limits.{mostPorts}
 use Rattle.patterns.specs.Calls.{stepOf}
 use Rattle.patterns.specs.Answers.{steppedTold}
-use Rattle.face.specs.Values.{oneNumber}
-use Rattle.face.proofs.Tells.{tells}
+use Rattle.facing.specs.Values.{oneNumber}
+use Rattle.facing.proofs.Tells.{tells}
 use Rattle.face.proofs.pattern_calls.jidrofex_step.Statement.{statement}
 use Rattle.face.proofs.pattern_calls.jidrofex_step.Tie as tie
 

@@ -2,8 +2,8 @@
 -- Assumes nothing.
 use borrow.Author.Needs.{needs}
 use Rattle.patterns.specs.Answers.{unrankedTold}
-use Rattle.face.specs.Values.{nothing}
-use Rattle.face.proofs.Tells.{tells}
+use Rattle.facing.specs.Values.{nothing}
+use Rattle.facing.proofs.Tells.{tells}
 use Rattle.face.proofs.pattern_calls.jidrofex_unrank.Statement.{statement}
 use Rattle.face.proofs.pattern_calls.jidrofex_unrank.Tie as tie
 

@@ -21,8 +21,8 @@ use Rattle.campaign.proofs.Tells.{told-given}
 use Rattle.crossing.specs.Answers.{five}
 use Rattle.crossing.specs.Lines.{lineWords}
 use Rattle.crossing.specs.States.{stateCount, stateWords, stateIn}
-use Rattle.face.specs.Values.{orderAndBytes}
-use Rattle.face.specs.Calls.{onState, leftIn, stateLeft, bytesIn, stateBytes, beginTold, beginWords}
+use Rattle.facing.specs.Values.{orderAndBytes}
+use Rattle.facing.specs.Calls.{onState, leftIn, stateLeft, bytesIn, stateBytes, beginTold, beginWords}
 
 -- ---- words that are a state
 

@@ -16,8 +16,8 @@ use Rattle.lines.specs.Calls.{writeOf, writeBytes}
 use Rattle.lines.specs.Reading.{readOf}
 use Rattle.crossing.specs.Answers.{numberTold, wordsTold}
 use Rattle.crossing.specs.Lines.{moveWords, lineIn}
-use Rattle.face.specs.Values.{nothing, oneNumber, lineAndPlace, orderAndBytes, bytesAndEnd}
-use Rattle.face.specs.Calls.{calledTold, calledWords, requestBytes, ordersTold, ordersWords, ordersBytes, beginTold, beginWords}
+use Rattle.facing.specs.Values.{nothing, oneNumber, lineAndPlace, orderAndBytes, bytesAndEnd}
+use Rattle.facing.specs.Calls.{calledTold, calledWords, requestBytes, ordersTold, ordersWords, ordersBytes, beginTold, beginWords}
 
 -- what a call answers and leaves: its number, the words of the answer, and the contents of each lent slice that it may change
 pub record Result : Type 0 where
