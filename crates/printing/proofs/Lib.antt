@@ -3,4 +3,5 @@ pub mod Buffer
 pub mod Parts
 pub mod Filling
 pub mod Progress
+pub mod Whole
 pub mod Only

@@ -120,7 +120,7 @@ module _ (s : State) (R : Running s) (room : ℕ) where
       answer-on D t (Q .kept) (Q .setting) (report 0) ∙ ran-taken D (momentOf t) (Q .fit) st
 
   -- after a request whose line others follow, its mark reported as run, the campaign runs on with less to go
-  run-on : (a : model.Answer) → answerOf (request room) s ≡ a → more (sequel a) ≡ true
+  pub run-on : (a : model.Answer) → answerOf (request room) s ≡ a → more (sequel a) ≡ true
       → Running (asRun a (leftOf (request room) s)) × (toGo (asRun a (leftOf (request room) s)) < toGo s)
   run-on (movement o) e h = (running-left s R (request room), go-less s R (request room) (λ x. true≢false (cc)) (ap bringsOn e))
   run-on (mark k r) e h =
