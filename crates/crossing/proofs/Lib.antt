@@ -1,6 +1,1 @@
 pub mod LineWords
-pub mod Parts
-pub mod Within
-pub mod Runs
-pub mod StateWords
-pub mod Back

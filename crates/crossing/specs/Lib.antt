@@ -1,4 +1,2 @@
 pub mod Answers
 pub mod Lines
-pub mod States
-pub mod Held

@@ -20,7 +20,7 @@ use Rattle.campaign.specs.Calls.{answerOf, toldOf, after, leftOf, begunOf, line
 use Rattle.campaign.proofs.Tells.{told-given}
 use Rattle.crossing.specs.Answers.{five}
 use Rattle.crossing.specs.Lines.{lineWords}
-use Rattle.crossing.specs.States.{stateCount, stateWords, stateIn}
+use Rattle.states.specs.States.{stateCount, stateWords, stateIn}
 use Rattle.facing.specs.Values.{orderAndBytes}
 use Rattle.facing.specs.Calls.{onState, leftIn, stateLeft, bytesIn, stateBytes, beginTold, beginWords}
 

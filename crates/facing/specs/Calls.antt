@@ -14,7 +14,7 @@ use Rattle.fitness.specs.declared.State.{State}
 use Rattle.campaign.specs.Calls.{answerOf, toldOf, leftOf, bytesOf, begunOf}
 use Rattle.printing.specs.Printing.{linesIn}
 use Rattle.printing.specs.Answers.{fillOf, fillBytes}
-use Rattle.crossing.specs.States.{stateCount, stateWords, stateIn}
+use Rattle.states.specs.States.{stateCount, stateWords, stateIn}
 
 -- ---- a call on a state in words: f is what it tells of the state, g the state that it leaves, h the bytes of its buffer
 

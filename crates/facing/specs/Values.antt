@@ -10,7 +10,7 @@ use Rattle.promise.specs.Campaign as model
 use Rattle.lines.specs.Format.{lineText}
 use Rattle.fitness.specs.State.{answerLine}
 use Rattle.crossing.specs.Lines.{lineWords}
-use Rattle.crossing.specs.States.{bit}
+use Rattle.states.specs.States.{bit}
 
 -- 'Gives nothing'
 abbrev pub nothing : {A : Type 0} → A → List ℕ

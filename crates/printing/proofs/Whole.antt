@@ -72,12 +72,12 @@ whole-enough (suc j) (suc k) s R h g =
     let a = answerOf (request anyLine) s in
     either (test (more (sequel a)))
     (λ e.
-      let on = run-on s R anyLine a refl e in
-      ap (λ x. answerText a ++ cond (more (sequel a)) x [])
-      (whole-enough j k (onward anyLine s) (on .0) (omega (arith, on .1)) (omega (arith, on .1))))
+    let on = run-on s R anyLine a refl e in
+    ap (λ x. answerText a ++ cond (more (sequel a)) x [])
+    (whole-enough j k (onward anyLine s) (on .0) (omega (arith, on .1)) (omega (arith, on .1))))
     (λ e.
-      ap (λ b. answerText a ++ cond b (wholeFrom j (onward anyLine s)) []) e
-      ∙ sym (ap (λ b. answerText a ++ cond b (wholeFrom k (onward anyLine s)) []) e))
+    ap (λ b. answerText a ++ cond b (wholeFrom j (onward anyLine s)) []) e
+    ∙ sym (ap (λ b. answerText a ++ cond b (wholeFrom k (onward anyLine s)) []) e))
 
 module _ (s : State) (R : Running s) where
   abbrev a : model.Answer
@@ -127,14 +127,14 @@ lines-part (suc k) room s R =
     let x = answerOf (request room) s in
     either (test (more (sequel x)))
     (λ e.
-      let same = line-same s R room true (more-follow (sequel x) e) in
-      let rest = linesFrom k (room - width x) (onward room s) in
-      subst (Parts s) (sym (lines-on room s k e))
-      (whole-on s R (ap (λ y. more (sequel y)) same ∙ e)
-      ∙ ap (λ y. answerText y ++ whole (onward anyLine s)) same
-      ∙ ap (λ y. answerText x ++ whole y) (onward-same s R room true (more-follow (sequel x) e))
-      ∙ ap (λ y. answerText x ++ y) (lines-part k (room - width x) (onward room s) (run-on s R room x refl e .0))
-      ∙ sym (append-assoc (answerText x) (rest .text) (stillToCome (sequel (rest .stop)) (rest .left)))))
+    let same = line-same s R room true (more-follow (sequel x) e) in
+    let rest = linesFrom k (room - width x) (onward room s) in
+    subst (Parts s) (sym (lines-on room s k e))
+    (whole-on s R (ap (λ y. more (sequel y)) same ∙ e)
+    ∙ ap (λ y. answerText y ++ whole (onward anyLine s)) same
+    ∙ ap (λ y. answerText x ++ whole y) (onward-same s R room true (more-follow (sequel x) e))
+    ∙ ap (λ y. answerText x ++ y) (lines-part k (room - width x) (onward room s) (run-on s R room x refl e .0))
+    ∙ sym (append-assoc (answerText x) (rest .text) (stillToCome (sequel (rest .stop)) (rest .left)))))
     (λ e. subst (Parts s) (sym (lines-off room s k e)) (last room s R (sequel x) refl e))
   where
     last : (room : ℕ) (s : State) → Running s → (t : Told Bool) → sequel (answerOf (request room) s) ≡ t → more (sequel (answerOf (request room) s)) ≡ false

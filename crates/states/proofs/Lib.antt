@@ -1,0 +1,5 @@
+pub mod Parts
+pub mod Within
+pub mod Runs
+pub mod StateWords
+pub mod Back
