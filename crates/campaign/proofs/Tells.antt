@@ -7,8 +7,7 @@ use Prim.Native.Nat.{ℕ}
 use lib.ListN.{length}
 use Rattle.words.specs.Told.{Told, Spot, accepted, refused, nowhere}
 use Rattle.words.specs.Meaning.{numberOf}
-use Rattle.words.specs.declared.Line.{Line}
-use Rattle.words.specs.declared.Line.the-variants.{Movement, Mark, End}
+use Rattle.words.specs.declared.Line.the-variants.{Mark, End}
 use Rattle.words.specs.declared.Reason.{Reason}
 use Rattle.words.specs.declared.Place.the-variants.{Nowhere}
 use Rattle.words.proofs.Told.{not-both}
@@ -16,7 +15,7 @@ use Rattle.promise.specs.Campaign as model
 use Rattle.promise.specs.Campaign.{Call, request, report, movement, mark, theEnd, taken, refusal}
 use Rattle.fitness.specs.State.{answerText, width, momentOf}
 use Rattle.fitness.specs.declared.State.{State}
-use Rattle.campaign.specs.Calls.{answerOf, toldOf, after, over, bytesOf, lineIs}
+use Rattle.campaign.specs.Calls.{answerOf, toldOf, after, leftOf, over, bytesOf, lineIs}
 use Rattle.campaign.specs.Answers.{answerTold, heardTold, RequestIs, ReportIs}
 use Rattle.campaign.specs.declared.Requested.{Requested}
 use Rattle.campaign.specs.declared.Reported.{Reported}
@@ -75,12 +74,19 @@ told-refused (theEnd j) e = absurd (not-both (sym e))
 told-refused taken e = absurd (not-both (sym e))
 told-refused (refusal j) {k} e = let n : j ≡ k = cc in ap refusal n
 
--- what is left after a line does not depend on the room
-pub any-room : (l : Line) (room : ℕ) (s : State) → after (request 0) (lineIs l) s ≡ after (request room) (lineIs l) s
+-- what an answer leaves does not depend on the room
+pub any-room : (r q : ℕ) (a : model.Answer) (s : State) → after (request r) a s ≡ after (request q) a s
 unfolding model.after
-any-room (Movement o) room s = refl
-any-room (Mark k r) room s = refl
-any-room (End k) room s = refl
+any-room r q (movement o) s = refl
+any-room r q (mark k j) s = refl
+any-room r q (theEnd k) s = refl
+any-room r q taken s = refl
+any-room r q (refusal k) s = refl
+
+-- the state that is left, by the answer
+pub left-so : (c : Call) (s : State) {left : State} → left ≡ after c (answerOf c s) s → left ≡ leftOf c s
+unfolding leftOf
+left-so c s e = e
 
 -- a line that was handed out
 pub line-leaves-mark : (k r : ℕ) (s : State) → made s (s .leg) (s .step) (s .covered) (s .opened) (s .errors) true (s .ended) (s .panel) ≡ after (request 0) (lineIs (Mark k r)) s

@@ -31,10 +31,13 @@ fn numbered(ports: u8) -> Told {
     }
 }
 
-pub fn to_run() {
+fn patterns_tried() {
     says::answered(b"pattern 1,1", checked(&[1, 1]), 5, 1);
     says::answered(b"pattern 2,2", checked(&[2, 2]), 4, 2);
     says::answered(b"pattern 3,1", checked(&[3, 1]), 3, 1);
+}
+
+fn ports_tried() {
     says::answered(b"20 ports", numbered(20), 0, 0);
     says::answered(b"21 ports", numbered(21), 1, 0);
     says::answered(
@@ -49,6 +52,9 @@ pub fn to_run() {
         1,
         1,
     );
+}
+
+fn runs_tried() {
     says::answered(
         b"4 ports, run 8",
         planned(b"ports=4\nlegs=1\nstart=0\nrun=8\n"),
@@ -73,5 +79,11 @@ pub fn to_run() {
         10,
         4,
     );
+}
+
+pub fn to_run() {
+    patterns_tried();
+    ports_tried();
+    runs_tried();
     says::answered(b"legs 0", planned(b"ports=4\nlegs=0\n"), 9, 2);
 }

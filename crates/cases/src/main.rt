@@ -16,13 +16,16 @@ fn tables_4_and_5() {
     rows::all_rows(&five, &mut pattern_5, 44);
 }
 
-fn circuits_2_to_7() {
+fn circuits_2_to_4() {
     let mut two = [0u8; 2];
     walks::circuit(&mut two, &mut [0u8; 2], 1);
     let mut three = [0u8; 3];
     walks::circuit(&mut three, &mut [0u8; 3], 2);
     let mut four = [0u8; 4];
     walks::circuit(&mut four, &mut [0u8; 4], 9);
+}
+
+fn circuits_5_to_7() {
     let mut five = [0u8; 5];
     walks::circuit(&mut five, &mut [0u8; 5], 44);
     let mut six = [0u8; 6];
@@ -34,6 +37,7 @@ fn circuits_2_to_7() {
 fn main() {
     calls::to_run();
     tables_4_and_5();
-    circuits_2_to_7();
+    circuits_2_to_4();
+    circuits_5_to_7();
     example::printed_and_read();
 }

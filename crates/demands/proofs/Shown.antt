@@ -26,7 +26,7 @@ use Rattle.lines.specs.Campaign.{OfCampaign}
 use Rattle.words.specs.Shape.{lineFits}
 use Rattle.panel.specs.Calls as panel
 use Rattle.promise.specs.Plan.{marks}
-use Rattle.promise.specs.Campaign.{State, Setting, Call, request, Answer, movement, mark, refusal, here, numberOf, rankOf, todo, offer, answer}
+use Rattle.promise.specs.Campaign.{State, Setting, Call, request, Answer, movement, refusal, here, numberOf, rankOf, todo, offer, answer}
 use Rattle.promise.specs.Fitness.{Fit, noRoom, markStands}
 use Rattle.promise.specs.Derangements.{derangements}
 use Rattle.promise.proofs.Legs.{number-below}

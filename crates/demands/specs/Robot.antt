@@ -15,7 +15,7 @@ use Rattle.words.specs.declared.Line.the-variants.{Movement, Mark, End}
 use Rattle.lines.specs.Format.{lineText}
 use Rattle.lines.specs.Reading.{readOf}
 use Rattle.panel.specs.Calls.{carryOf, carryBytes}
-use Rattle.promise.specs.Campaign.{mark, taken, request, report}
+use Rattle.promise.specs.Campaign.{request, report}
 use Rattle.promise.specs.Bench.{Act, moves, meets, inFront}
 use Rattle.fitness.specs.State.{answerLine}
 use Rattle.fitness.specs.declared.State.{State}

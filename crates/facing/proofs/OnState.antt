@@ -12,11 +12,10 @@ use Rattle.words.specs.declared.Line.{Line}
 use Rattle.words.specs.declared.Line.the-variants.{Movement, Mark, End}
 use Rattle.words.specs.declared.Order.the-variants.{Swap, Turn}
 use Rattle.promise.specs.Campaign as model
-use Rattle.promise.specs.Campaign.{Call}
 use Rattle.plans.specs.Calls.{readPlanOf}
 use Rattle.fitness.specs.State.{width}
 use Rattle.fitness.specs.declared.State.{State}
-use Rattle.campaign.specs.Calls.{answerOf, toldOf, after, leftOf, begunOf, lineIs}
+use Rattle.campaign.specs.Calls.{toldOf, begunOf, lineIs}
 use Rattle.campaign.proofs.Tells.{told-given}
 use Rattle.crossing.specs.Answers.{five}
 use Rattle.crossing.specs.Lines.{lineWords}
@@ -46,11 +45,6 @@ on-bytes h ws e buf = ap (λ o. bytesIn h o buf) e
 pub refused-left : {A : Type 0} (f : State → Told A) (g : State → State) (ws : List ℕ) {k : ℕ} {p : Spot} → refused k p ≡ onState f ws → ws ≡ stateLeft f g ws
 unfolding stateLeft
 refused-left f g ws t = ap (λ x. leaves x (leftIn g (stateIn ws) ws) ws) t
-
--- the state that a call of a campaign leaves
-pub left-so : (c : Call) (s : State) {left : State} → left ≡ after c (answerOf c s) s → left ≡ leftOf c s
-unfolding leftOf
-left-so c s e = e
 
 -- ---- words that are none
 

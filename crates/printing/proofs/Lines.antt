@@ -4,8 +4,7 @@
 use mathlib.Core.Path.{_≡_, refl, sym, ap, subst, _∙_}
 use mathlib.Core.Logic.{_≢_}
 use mathlib.Core.Bool.{Bool, true, false, not, cond, true≢false}
-use mathlib.Core.List.{List, []}
-use Prim.Native.Nat.{ℕ, zero, suc, _+_, _-_, _≤_, _<_}
+use Prim.Native.Nat.{ℕ, zero, suc, _-_, _≤_, _<_}
 use native.Mathlib.Omega.{arith}
 use lib.Dec.{ltb}
 use lib.ListN.{length, length-append}
@@ -14,7 +13,6 @@ use Rattle.listing.proofs.Numbers.{either, test}
 use Rattle.words.specs.Told.{Told, Spot, accepted, refused}
 use Rattle.words.specs.Meaning.{orderFrom}
 use Rattle.words.specs.declared.Line.the-variants.{Movement, Mark}
-use Rattle.lines.specs.Format.{lineText}
 use Rattle.lines.proofs.Inverse.{text-length}
 use Rattle.promise.specs.Campaign as model
 use Rattle.promise.specs.Campaign.{request, movement, mark, theEnd, taken, refusal, offer, fit}

@@ -1,28 +1,21 @@
 -- One request at a place of a buffer: the part from the place on is what is lent, and the answer decides what follows.
 -- Assumes nothing.
-use mathlib.Core.Path.{_≡_, refl, sym, ap, subst, _∙_}
+use mathlib.Core.Path.{_≡_, sym, ap, subst, _∙_}
 use mathlib.Core.List.{List, [], _++_, append-nil}
 use Prim.Native.Nat.{ℕ, _+_, _-_, _≤_}
 use native.Mathlib.Omega.{arith}
-use lib.ListN.{length, take, drop, take-append-drop, length-drop}
+use lib.ListN.{length, take, drop, take-append-drop}
 use lib.Seq.{drop-length}
 use borrow.Rule.Slice.PartMut.{midOf, putMid, mid-len, post-is}
 use Rattle.promise.specs.Campaign as model
-use Rattle.promise.specs.Campaign.{request, report}
-use Rattle.fitness.specs.State.{width}
+use Rattle.promise.specs.Campaign.{request}
 use Rattle.fitness.specs.declared.State.{State}
-use Rattle.campaign.specs.Answers.{RequestIs, ReportIs}
+use Rattle.campaign.specs.Answers.{RequestIs}
 use Rattle.campaign.specs.Calls.{answerOf, after, leftOf, bytesOf}
 use Rattle.campaign.specs.declared.Requested.{Requested}
-use Rattle.campaign.specs.declared.Reported.{Reported}
 use Rattle.printing.specs.Printing.{asRun, sequel}
 use Rattle.printing.specs.Answers.{sequelTold, GivenIs}
 use Rattle.printing.specs.declared.Given.{Given}
-
--- what the report that it ran leaves
-pub ran-left : (s : State) (r : Reported) → ReportIs (report 0) (answerOf (report 0) s) s r → r .campaign .state ≡ leftOf (report 0) s
-unfolding leftOf
-ran-left s r R = R .state
 
 module _ (s : State) (b : List ℕ) (at : ℕ) (h : at ≤ length b) where
   abbrev room : ℕ

@@ -3,7 +3,7 @@
 -- Assumes nothing.
 use mathlib.Core.Path.{_≡_, refl, sym, ap, subst, _∙_}
 use mathlib.Core.Logic.{_≢_}
-use mathlib.Core.Bool.{Bool, true, false, cond, true≢false}
+use mathlib.Core.Bool.{true, false, true≢false}
 use mathlib.Core.List.{List}
 use Prim.Native.Nat.{ℕ, zero, suc, _-_, _≤_, _<_}
 use native.Mathlib.Omega.{arith}
@@ -19,14 +19,14 @@ use Rattle.promise.proofs.Progress.{work-moved, work-marked, work-closing}
 use Rattle.promise.proofs.Refusals.{ran-taken}
 use Rattle.plans.specs.Grammar.{Planned}
 use Rattle.plans.specs.Calls.{readPlanOf}
-use Rattle.fitness.specs.State.{answerText, width, settingOf, momentOf}
+use Rattle.fitness.specs.State.{width, settingOf, momentOf}
 use Rattle.fitness.specs.declared.State.{State}
 use Rattle.campaign.specs.Calls.{answerOf, leftOf, begunOf}
 use Rattle.demands.specs.Code.{campaignOf}
 use Rattle.demands.proofs.Three.{lawful, accepts}
 use Rattle.demands.proofs.Kept.{left-setting, answer-on, left-on}
 use Rattle.demands.proofs.Reached.{Reached, reached-first, does-there, reached-left}
-use Rattle.printing.specs.Printing.{asRun, sequel, more, Printout, inFront, onward, linesFrom, linesIn}
+use Rattle.printing.specs.Printing.{asRun, sequel, more, Printout, onward, linesFrom, linesIn}
 use Rattle.printing.specs.Answers.{filledTold, stopTold, fillOf, PrintedIs}
 use Rattle.printing.specs.declared.Filled.the-variants.{Lines}
 use Rattle.printing.specs.declared.Printed.{Printed}

@@ -3,38 +3,29 @@
 -- Assumes nothing.
 use mathlib.Core.Path.{_≡_, refl, sym, ap, subst, _∙_}
 use mathlib.Core.Bool.{Bool, true, false, cond, true≢false}
-use mathlib.Core.List.{List, [], _++_, append-assoc, append-nil}
-use Prim.Native.Nat.{ℕ, zero, suc, _-_, _≤_, _<_}
+use mathlib.Core.List.{[], _++_, append-assoc, append-nil}
+use Prim.Native.Nat.{ℕ, zero, suc, _-_, _<_}
 use native.Mathlib.Omega.{arith}
-use lib.ListN.{length}
 use Rattle.listing.proofs.Numbers.{either, test}
 use Rattle.words.specs.Told.{Told, Spot, accepted, refused}
 use Rattle.words.proofs.Told.{not-both}
 use Rattle.promise.specs.Campaign as model
-use Rattle.promise.specs.Campaign.{Setting, Call, request, report, movement, mark, theEnd, taken, refusal, offer}
-use Rattle.promise.proofs.Refusals.{Answered, refused as why-refused, given, heeded, answered-so, served}
+use Rattle.promise.specs.Campaign.{Call, request, movement, mark, theEnd, taken, refusal}
+use Rattle.promise.proofs.Refusals.{Answered, refused as why-refused, given, answered-so, served}
 use Rattle.fitness.specs.State.{answerText, width, momentOf}
 use Rattle.fitness.specs.declared.State.{State}
 use Rattle.campaign.specs.Calls.{answerOf, after, leftOf}
 use Rattle.campaign.proofs.Moments.{refusal-leaves}
+use Rattle.campaign.proofs.Tells.{any-room}
 use Rattle.demands.specs.Code.{campaignOf}
 use Rattle.demands.proofs.Kept.{answer-on}
 use Rattle.demands.proofs.Refusals.{offer-45}
-use Rattle.printing.specs.Printing.{asRun, sequel, more, Printout, inFront, onward, linesFrom, linesIn}
+use Rattle.printing.specs.Printing.{asRun, sequel, more, Printout, onward, linesFrom, linesIn}
 use Rattle.printing.specs.Progress.{toGo, anyLine, wholeFrom, whole, stillToCome}
 use Rattle.printing.proofs.Lines.{lines-on, lines-off}
 use Rattle.printing.proofs.Progress.{Running, run-on}
 
 -- ---- the room decides only whether a line is given
-
--- what an answer leaves does not depend on the room
-any-room : (r q : ℕ) (a : model.Answer) (s : State) → after (request r) a s ≡ after (request q) a s
-unfolding model.after
-any-room r q (movement o) s = refl
-any-room r q (mark k j) s = refl
-any-room r q (theEnd k) s = refl
-any-room r q taken s = refl
-any-room r q (refusal k) s = refl
 
 module _ (s : State) (R : Running s) (room : ℕ) where
   -- a line that is given is the one that any room gives

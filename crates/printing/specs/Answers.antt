@@ -7,7 +7,6 @@ use mathlib.Core.List.{List}
 use lib.ListN.{length}
 use Rattle.words.specs.Told.{Told, accepted, refused}
 use Rattle.words.specs.Meaning.{refusalOf}
-use Rattle.promise.specs.Campaign as model
 use Rattle.promise.specs.Campaign.{request}
 use Rattle.fitness.specs.State.{width}
 use Rattle.fitness.specs.declared.State.{State}

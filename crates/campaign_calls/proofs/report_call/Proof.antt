@@ -7,12 +7,13 @@ use Rattle.words.specs.Meaning.{refusalOf}
 use Rattle.promise.specs.Campaign.{report}
 use Rattle.campaign.specs.Answers.{heardTold}
 use Rattle.campaign.specs.Calls.{leftOf}
+use Rattle.campaign.proofs.Tells.{left-so}
 use Rattle.states.specs.States.{stateIn}
 use Rattle.states.proofs.StateWords.{held-state, held-none, state-length}
 use Rattle.facing.specs.Values.{nothing}
 use Rattle.facing.specs.Calls.{toldBy}
 use Rattle.facing.proofs.Tells.{tells}
-use Rattle.facing.proofs.OnState.{on-told, on-left, refused-left, left-so, off-told}
+use Rattle.facing.proofs.OnState.{on-told, on-left, refused-left, off-told}
 use Rattle.campaign_calls.proofs.report_call.Statement.{statement}
 use Rattle.campaign_calls.proofs.report_call.Tie as tie
 

@@ -7,13 +7,14 @@ use borrow.Author.Needs.{needs}
 use Rattle.words.specs.Meaning.{refusalOf}
 use Rattle.promise.specs.Campaign.{request}
 use Rattle.campaign.specs.Calls.{answerOf, leftOf, bytesOf}
+use Rattle.campaign.proofs.Tells.{left-so}
 use Rattle.states.specs.States.{stateIn}
 use Rattle.states.proofs.StateWords.{held-state, held-none, state-length}
 use Rattle.facing.specs.Values.{orderAndBytes}
 use Rattle.campaign_calls.specs.Shown.{shownTold}
 use Rattle.facing.specs.Calls.{toldBy}
 use Rattle.facing.proofs.Tells.{tells}
-use Rattle.facing.proofs.OnState.{on-told, on-left, on-bytes, refused-left, left-so, off-told, off-bytes, shown-words, line-width}
+use Rattle.facing.proofs.OnState.{on-told, on-left, on-bytes, refused-left, off-told, off-bytes, shown-words, line-width}
 use Rattle.campaign_calls.proofs.request_call.Statement.{statement}
 use Rattle.campaign_calls.proofs.request_call.Tie as tie
 

@@ -4,13 +4,12 @@ use Prim.Native.Nat.{_-_}
 use native.Mathlib.Omega.{arith}
 use lib.ListN.{length}
 use borrow.Author.Needs.{needs}
-use Rattle.promise.specs.Campaign.{request, movement, mark, theEnd, refusal}
-use Rattle.words.specs.Meaning.{orderOf, numberOf, spotOf}
+use Rattle.promise.specs.Campaign.{request}
 use Rattle.campaign.specs.Answers.{answerTold}
 use Rattle.campaign.specs.Calls.{toldOf}
-use Rattle.campaign.proofs.Tells.{told-given, told-refused, retold}
+use Rattle.campaign.proofs.Tells.{told-given, told-refused, left-so, retold}
 use Rattle.printing.proofs.Lines.{within-room}
-use Rattle.printing.proofs.Parts.{part-asked, part-bytes, given-as, ran-left}
+use Rattle.printing.proofs.Parts.{part-asked, part-bytes, given-as}
 use Rattle.printing.proofs.request_line.Statement.{statement}
 use Rattle.printing.proofs.request_line.Tie as tie
 
@@ -38,7 +37,7 @@ returns-2 c =
     let s = w .before .before .before in
     let R = part-asked (s .args .c .state) (s .args .buf .now) (s .args .at) (s .pre) (w .request .result) (w .request .ensures .0) in
     let e = told-given _ (sym (R .answer) ∙ ap answerTold (c .before .before .enum-told2 .given .1)) in (
-      given-as (s .args .c .state) (s .args .buf .now) (s .args .at) (s .pre) _ (w .request .result) _ R e refl (ran-left _ _ (c .before .report .ensures)) refl,
+      given-as (s .args .c .state) (s .args .buf .now) (s .args .at) (s .pre) _ (w .request .result) _ R e refl (left-so _ _ (c .before .report .ensures .state)) refl,
       part-bytes (s .args .c .state) (s .args .buf .now) (s .args .at) (s .pre) _ (w .request .ensures .1),
     )
 

@@ -5,7 +5,7 @@ use borrow.Author.Needs.{needs}
 use Rattle.promise.specs.Campaign.{request}
 use Rattle.writing.specs.Answers.{writtenTold}
 use Rattle.fitness.specs.State.{answerText, width}
-use Rattle.campaign.specs.Calls.{toldOf, after, over}
+use Rattle.campaign.specs.Calls.{toldOf, after, over, lineIs}
 use Rattle.campaign.proofs.Moments.{refusal-leaves}
 use Rattle.campaign.proofs.Written.{was-written, not-written}
 use Rattle.campaign.proofs.Tells.{any-room, retold}
@@ -36,7 +36,7 @@ returns-2 c =
     (ap writtenTold (sym (c .before .before .before .n .given .1)) ∙ w .write-line .ensures .0) in (
       record {
         answer = c .answer-of .ensures ∙ ap toldOf (d .answer);
-        state = c .before .after-line .ensures ∙ any-room (a .line) (length (a .buf .now)) (a .s) ∙ ap (λ x. after (request (length (a .buf .now))) x (a .s)) (d .answer);
+        state = c .before .after-line .ensures ∙ any-room 0 (length (a .buf .now)) (lineIs (a .line)) (a .s) ∙ ap (λ x. after (request (length (a .buf .now))) x (a .s)) (d .answer);
         written = d .bytes ∙ ap width (d .answer);
       },
       w .write-line .ensures .1 ∙ d .left,
