@@ -35,6 +35,8 @@ enum {
 
 /* The kind of a line or a move. A line is JIDROFEX_LINE_WORDS words: its kind and three numbers, 0 where it has fewer.
  *     swap   a, b          turn   a, b, c          mark   number, rank          end   marks
+ * In a line that is passed to a call, words that its kind has no use for are not looked at, and a kind that is no line's, or a number where a jack stands that
+ * no jack has, is refused as out of shape (17).
  * A move is its kind and four jacks: nothing, a swap, a turn, or two swaps a,b and c,d. */
 enum {
     JIDROFEX_NOTHING = 0,
@@ -98,8 +100,7 @@ uint8_t jidrofex_step(uint8_t ports, uint64_t rank, int64_t k, uint64_t answer[5
 uint8_t jidrofex_port_at(const uint8_t *panel, size_t ports, uint8_t jack, uint64_t answer[5]);
 uint8_t jidrofex_jack_of(const uint8_t *panel, size_t ports, uint8_t port, uint64_t answer[5]);
 
-/* A line carried out on the panel; a mark and an end leave it as it is. Words of the line that its kind has no use for are not looked at, a kind that is no
- * line's is refused as out of shape (17). Gives nothing. */
+/* A line carried out on the panel; a mark and an end leave it as it is. Gives nothing. */
 uint8_t jidrofex_carry(uint8_t *panel, size_t ports, const uint64_t line[4], uint64_t answer[5]);
 
 /* ---- order lines */
@@ -112,7 +113,8 @@ uint8_t jidrofex_read_line(const uint8_t *text, size_t bytes, size_t place, uint
 
 /* ---- a campaign */
 
-/* The first state of the plan that the text is. A refused text leaves a state all zeros, unless the state's length is wrong (15). Gives nothing. */
+/* The first state of the plan that the text is. A refused text leaves a state all zeros; a state of the wrong length is refused (15) before the text is
+ * looked at. Gives nothing. */
 uint8_t jidrofex_begin(const uint8_t *text, size_t bytes, uint64_t *state, size_t words, uint64_t answer[5]);
 
 /* The next order, its line at the front of the buffer. Gives the line's four words and how many bytes it takes. */
