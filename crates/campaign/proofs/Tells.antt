@@ -1,10 +1,13 @@
 -- Answers and the states beside them: what is refused, what is taken, what is handed out.
 -- Assumes nothing.
 use mathlib.Core.Path.{_≡_, refl, sym, ap, _∙_, subst}
-use mathlib.Core.Bool.{true}
+use mathlib.Core.Bool.{Bool, true, false, not, cond}
 use mathlib.Core.List.{List}
-use Prim.Native.Nat.{ℕ}
+use Prim.Native.Nat.{ℕ, _≤_}
+use native.Mathlib.Omega.{arith}
+use lib.Dec.{ltb}
 use lib.ListN.{length}
+use borrow.Author.Tests.{ltb-false}
 use Rattle.words.specs.Told.{Told, Spot, accepted, refused, nowhere}
 use Rattle.words.specs.Meaning.{numberOf}
 use Rattle.words.specs.declared.Line.the-variants.{Mark, End}
@@ -12,8 +15,9 @@ use Rattle.words.specs.declared.Reason.{Reason}
 use Rattle.words.specs.declared.Place.the-variants.{Nowhere}
 use Rattle.words.proofs.Told.{not-both}
 use Rattle.promise.specs.Campaign as model
-use Rattle.promise.specs.Campaign.{Call, request, report, movement, mark, theEnd, taken, refusal}
-use Rattle.fitness.specs.State.{answerText, width, momentOf}
+use Rattle.promise.specs.Campaign.{Call, request, report, movement, mark, theEnd, taken, refusal, fit, offer}
+use Rattle.fitness.specs.State.{answerText, width, settingOf, momentOf}
+use Rattle.fitness.specs.Fitness.{placesFit}
 use Rattle.fitness.specs.declared.State.{State}
 use Rattle.campaign.specs.Calls.{answerOf, toldOf, after, leftOf, over, bytesOf, lineIs}
 use Rattle.campaign.specs.Answers.{answerTold, heardTold, RequestIs, ReportIs}
@@ -108,3 +112,21 @@ bytes-stay s buf k e = bytes-by s buf (refusal k) e
 -- a report by the number of its kind
 pub report-kind : (j k : ℕ) (s : State) (r : Reported) → k ≡ j → ReportIs (report j) (answerOf (report j) s) s r → ReportIs (report k) (answerOf (report k) s) s r
 report-kind j k s r e h = subst (λ x. ReportIs (report x) (answerOf (report x) s) s r) (sym e) h
+
+-- ---- the room
+
+-- what a request writes fits the room
+pub within-room : (room : ℕ) (s : State) → width (answerOf (request room) s) ≤ room
+unfolding answerOf model.answer
+within-room room s =
+    let C = settingOf s in
+    let m = momentOf s in
+    by (placesFit s) (fit C m) (m .standing) (ltb room (width (offer C m))) refl
+  where
+    by : (a b c d : Bool) → ltb room (width (offer (settingOf s) (momentOf s))) ≡ d
+        → width (cond a (cond (not b) (refusal 15) (cond c (refusal 13) (cond d (refusal 2) (offer (settingOf s) (momentOf s))))) (refusal 15)) ≤ room
+    by false b c d e = omega arith
+    by true false c d e = omega arith
+    by true true true d e = omega arith
+    by true true false true e = omega arith
+    by true true false false e = ltb-false room (width (offer (settingOf s) (momentOf s))) e

@@ -37,12 +37,12 @@ use Rattle.plans.specs.Calls.{readPlanOf}
 use Rattle.fitness.specs.State.{answerLine, textOf, momentOf}
 use Rattle.fitness.specs.declared.State.{State}
 use Rattle.campaign.specs.Calls.{answerOf, leftOf, bytesOf, begunOf}
+use Rattle.campaign.proofs.Tells.{within-room}
 use Rattle.demands.specs.Code.{campaignOf, Called, asks, tells, turnsOf, leftAfter}
 use Rattle.demands.specs.Robot.{seen, obeyed, panelAfter, Obeys, Asked, RobotMeets, lineActs, seenActs, askedActs, robotActs}
 use Rattle.demands.proofs.Begun.{plan-fits}
-use Rattle.demands.proofs.Kept.{answer-on}
 use Rattle.demands.proofs.Three.{begun-moment, demand-left, all-met}
-use Rattle.demands.proofs.Shown.{Shows, Shown, shows, room-enough}
+use Rattle.demands.proofs.Shown.{Shows, Shown, shows}
 use Rattle.demands.proofs.Reached.{Reached, reached-first, does-there, reached-left}
 
 -- ---- one line at the front of a buffer
@@ -125,14 +125,7 @@ module _ (t : List ℕ) (p : Planned) (e : readPlanOf t ≡ accepted p) where
     a : Answer
     a = answerOf (request (length buf)) s
 
-    -- the line that is given has room
-    room-there : (o : Option Line) → answerLine a ≡ o → length (textOf o) ≤ length buf
-    unfolding a
-    room-there none h = omega arith
-    room-there (some l) h =
-        room-enough C (momentOf s) (R .fit) (length buf) l refl (ap answerLine (sym (answer-on C s (R .kept) (R .setting) (request (length buf)))) ∙ h)
-
-    -- so the request is obeyed, and the robot's panel stays that of the state
+    -- the request is obeyed, and the robot's panel stays that of the state
     obeyed-there : Asked (p .ports) (answerLine a) buf (bytesOf s buf) (momentOf s .panel)
         × (panelAfter (answerLine a) (bytesOf s buf) (momentOf s .panel) ≡ momentOf (leftOf (request (length buf)) s) .panel)
     unfolding a bytesOf
@@ -140,7 +133,7 @@ module _ (t : List ℕ) (p : Planned) (e : readPlanOf t ≡ accepted p) where
         let f = plan-fits t p e in
         let d = does-there t p e s R (request (length buf)) in
         asked-so (p .ports) (f .fewPorts) (f .manyPorts) (answerLine a) buf (momentOf s .panel) (momentOf (leftOf (request (length buf)) s) .panel)
-        (room-there (answerLine a) refl) (R .permutation) (shows t p e (R .fit) d)
+        (within-room (length buf) s) (R .permutation) (shows t p e (R .fit) d)
 
   -- of every state that calls leave
   meets-from : (cs : List Called) (s : State) → Reached p s → RobotMeets (p .ports) (momentOf s .panel) cs s

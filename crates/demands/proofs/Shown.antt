@@ -1,19 +1,17 @@
 -- What a call on a fit state shows: the line of its answer is one that a campaign writes, it fits the panel, a mark meets its pattern, and the panel after the
--- line is that of the state left (`shows`); a line that is given has room in the buffer (`room-enough`).
+-- line is that of the state left (`shows`).
 -- Assumes nothing.
-use mathlib.Core.Path.{_≡_, refl, sym, ap, subst, _∙_}
-use mathlib.Core.Bool.{true, true≢false}
+use mathlib.Core.Path.{_≡_, refl, sym, ap, subst}
+use mathlib.Core.Bool.{true}
 use mathlib.Core.List.{List, _∷_}
 use mathlib.Core.Option.{Option, none, some}
 use Prim.Native.Nat.{ℕ, _≤_, _<_}
 use native.Mathlib.Omega.{arith}
-use lib.ListN.{length}
 use Rattle.listing.specs.Count.{count}
 use Rattle.listing.specs.Pattern.{Permutation}
 use Rattle.listing.specs.Orders as list
 use Rattle.listing.specs.Orders.{carry, InShape}
 use Rattle.listing.specs.Limits.{mostPorts, largest64}
-use Rattle.listing.proofs.Numbers.{either, test, below?}
 use Rattle.listing.proofs.Limits.{count-20, count-most}
 use Rattle.listing.proofs.Sources.{carry-permutation}
 use Rattle.words.specs.Told.{accepted}
@@ -21,23 +19,21 @@ use Rattle.words.specs.Meaning.{orderOf, orderFrom}
 use Rattle.words.specs.declared.Line.{Line}
 use Rattle.words.proofs.Once.{order-there}
 use Rattle.words.proofs.Shape.{shape-shaped, shape-more}
-use Rattle.lines.specs.Format.{lineText}
 use Rattle.lines.specs.Campaign.{OfCampaign}
 use Rattle.words.specs.Shape.{lineFits}
 use Rattle.panel.specs.Calls as panel
 use Rattle.promise.specs.Plan.{marks}
-use Rattle.promise.specs.Campaign.{State, Setting, Call, request, Answer, movement, refusal, here, numberOf, rankOf, todo, offer, answer}
-use Rattle.promise.specs.Fitness.{Fit, noRoom, markStands}
+use Rattle.promise.specs.Campaign.{State, Setting, Call, Answer, movement, here, numberOf, rankOf, todo}
+use Rattle.promise.specs.Fitness.{Fit}
 use Rattle.promise.specs.Derangements.{derangements}
 use Rattle.promise.proofs.Legs.{number-below}
 use Rattle.promise.proofs.Ways.{way-done}
 use Rattle.promise.proofs.Marks.{closed-so}
 use Rattle.promise.proofs.Steps.{Does, moves-on, hands-out, ends, closes, errs, refuses, listed-here, coming-here}
-use Rattle.promise.proofs.Refusals.{refused-so, served}
 use Rattle.plans.specs.Grammar.{Planned}
 use Rattle.plans.specs.Calls.{readPlanOf}
 use Rattle.plans.proofs.Longest.{marks-most}
-use Rattle.fitness.specs.State.{answerLine, textOf, width}
+use Rattle.fitness.specs.State.{answerLine}
 use Rattle.demands.specs.Code.{campaignOf}
 use Rattle.demands.specs.Robot.{MeetsAt}
 use Rattle.demands.proofs.Begun.{plan-fits}
@@ -111,20 +107,3 @@ module _ (t : List ℕ) (p : Planned) (e : readPlanOf t ≡ accepted p) where
   permutation-on f (closes st cl x) P = subst (Permutation (p .ports)) (sym (closed-so x .panel)) P
   permutation-on f (errs st lt) P = P
   permutation-on f (refuses k n) P = P
-
--- ---- room
-
--- a refusal has no line
-no-line : {B : Type 0} (a : Answer) (k : ℕ) (l : Line) → a ≡ refusal k → answerLine a ≡ some l → B
-no-line a k l e h = absurd (true≢false (cc (sym (ap answerLine e) ∙ h)))
-
--- a line that a request gives fits the room (of a campaign whose answers are as long as their lines)
-pub room-enough : (C : Setting) (m : State) → Fit C m → (room : ℕ) (l : Line) → C .width ≡ width → answerLine (answer C (request room) m) ≡ some l
-    → length (lineText l) ≤ room
-room-enough C m f room l w h =
-    either (test (m .standing)) (λ st. no-line (answer C (request room) m) 13 l (refused-so C m (markStands f st)) h) (λ st.
-    either (below? room (C .width (offer C m))) (λ less. no-line (answer C (request room) m) 2 l (refused-so C m (noRoom f st less)) h) (λ enough.
-    let given : answer C (request room) m ≡ offer C m = served C m room f st enough in
-    let long : C .width (offer C m) ≡ length (lineText l) =
-    ap (λ g. g (offer C m)) w ∙ ap (λ o. length (textOf o)) (ap answerLine (sym given) ∙ h) in
-    omega arith))

@@ -47,54 +47,54 @@ Only values told left = (r s : Result) → Meets values told left r → Meets va
 
 -- check and check_panel
 pub only-check : (pattern : Bool) (p : List ℕ) → Only nothing (checkAs pattern mostPorts p) []
-only-check pattern p = only nothing (checkAs pattern mostPorts p) []
+only-check pattern p = only _ _ _
 
 pub only-count : (ports : ℕ) → Only oneNumber (countOf mostPorts ports) []
-only-count ports = only oneNumber (countOf mostPorts ports) []
+only-count ports = only _ _ _
 
 pub only-rank : (p : List ℕ) → Only oneNumber (rankOf mostPorts p) []
-only-rank p = only oneNumber (rankOf mostPorts p) []
+only-rank p = only _ _ _
 
 pub only-unrank : (rank : ℕ) (p : List ℕ) → Only nothing (unrankOf mostPorts rank p) (unrankBytes mostPorts rank p ∷ [])
-only-unrank rank p = only nothing (unrankOf mostPorts rank p) (unrankBytes mostPorts rank p ∷ [])
+only-unrank rank p = only _ _ _
 
 -- next and previous
 pub only-beside : (back : Bool) (p : List ℕ) → Only moveWords (besideOf mostPorts back p) (besideBytes mostPorts back p ∷ [])
-only-beside back p = only moveWords (besideOf mostPorts back p) (besideBytes mostPorts back p ∷ [])
+only-beside back p = only _ _ _
 
 pub only-step : (ports rank : ℕ) (k : ℤ) → Only oneNumber (stepOf mostPorts ports rank k) []
-only-step ports rank k = only oneNumber (stepOf mostPorts ports rank k) []
+only-step ports rank k = only _ _ _
 
 -- ---- a panel
 
 pub only-port-at : (p : List ℕ) (jack : ℕ) → Only oneNumber (portOf mostPorts p jack) []
-only-port-at p jack = only oneNumber (portOf mostPorts p jack) []
+only-port-at p jack = only _ _ _
 
 pub only-jack-of : (p : List ℕ) (port : ℕ) → Only oneNumber (jackOf mostPorts p port) []
-only-jack-of p port = only oneNumber (jackOf mostPorts p port) []
+only-jack-of p port = only _ _ _
 
 pub only-carry : (line p : List ℕ) → Only nothing (carryOf mostPorts (lineIn line) p) (carryBytes mostPorts (lineIn line) p ∷ [])
-only-carry line p = only nothing (carryOf mostPorts (lineIn line) p) (carryBytes mostPorts (lineIn line) p ∷ [])
+only-carry line p = only _ _ _
 
 -- ---- order lines
 
 pub only-write-line : (line buf : List ℕ) → Only oneNumber (writeOf mostPorts (lineIn line) buf) (writeBytes mostPorts (lineIn line) buf ∷ [])
-only-write-line line buf = only oneNumber (writeOf mostPorts (lineIn line) buf) (writeBytes mostPorts (lineIn line) buf ∷ [])
+only-write-line line buf = only _ _ _
 
 pub only-read-line : (t : List ℕ) (place : ℕ) → Only lineAndPlace (readOf largest64 mostPorts t place) []
-only-read-line t place = only lineAndPlace (readOf largest64 mostPorts t place) []
+only-read-line t place = only _ _ _
 
 -- ---- a campaign
 
 pub only-begin : (t ws : List ℕ) → Only nothing (beginTold t ws) (beginWords t ws ∷ [])
-only-begin t ws = only nothing (beginTold t ws) (beginWords t ws ∷ [])
+only-begin t ws = only _ _ _
 
 pub only-request : (ws buf : List ℕ)
     → Only orderAndBytes (calledTold (request (length buf)) ws) (calledWords (request (length buf)) ws ∷ requestBytes ws buf ∷ [])
-only-request ws buf = only orderAndBytes (calledTold (request (length buf)) ws) (calledWords (request (length buf)) ws ∷ requestBytes ws buf ∷ [])
+only-request ws buf = only _ _ _
 
 pub only-report : (ws : List ℕ) (kind : ℕ) → Only nothing (calledTold (report kind) ws) (calledWords (report kind) ws ∷ [])
-only-report ws kind = only nothing (calledTold (report kind) ws) (calledWords (report kind) ws ∷ [])
+only-report ws kind = only _ _ _
 
 pub only-orders : (ws buf : List ℕ) → Only bytesAndEnd (ordersTold (length buf) ws) (ordersWords (length buf) ws ∷ ordersBytes ws buf ∷ [])
-only-orders ws buf = only bytesAndEnd (ordersTold (length buf) ws) (ordersWords (length buf) ws ∷ ordersBytes ws buf ∷ [])
+only-orders ws buf = only _ _ _

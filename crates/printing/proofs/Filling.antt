@@ -13,11 +13,12 @@ use Rattle.promise.specs.Campaign.{request}
 use Rattle.fitness.specs.State.{answerText, width}
 use Rattle.fitness.specs.declared.State.{State}
 use Rattle.campaign.specs.Calls.{answerOf, bytesOf, over}
+use Rattle.campaign.proofs.Tells.{within-room}
 use Rattle.printing.specs.Printing.{sequel, more, Printout, inFront, onward, linesIn}
 use Rattle.printing.specs.Answers.{sequelTold, filledTold, stopTold, fillOf, fillBytes, GivenIs, PrintedIs}
 use Rattle.printing.specs.declared.Given.{Given}
 use Rattle.printing.specs.declared.Printed.{Printed}
-use Rattle.printing.proofs.Lines.{some-byte, within-room, goes-on, stops, text-fits, told-within}
+use Rattle.printing.proofs.Lines.{some-byte, goes-on, stops, text-fits, told-within}
 use Rattle.printing.proofs.Buffer.{put, put-front, put-rest, put-length, rest-first, put-over, front-length}
 
 -- the first buffer b₀ and state s₀, and now the buffer b with its lines up to a place, and the state s

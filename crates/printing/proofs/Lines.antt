@@ -3,51 +3,33 @@
 -- Assumes nothing.
 use mathlib.Core.Path.{_≡_, refl, sym, ap, subst, _∙_}
 use mathlib.Core.Logic.{_≢_}
-use mathlib.Core.Bool.{Bool, true, false, not, cond, true≢false}
+use mathlib.Core.Bool.{Bool, true, false, cond, true≢false}
 use Prim.Native.Nat.{ℕ, zero, suc, _-_, _≤_, _<_}
 use native.Mathlib.Omega.{arith}
-use lib.Dec.{ltb}
 use lib.ListN.{length, length-append}
-use borrow.Author.Tests.{ltb-false}
 use Rattle.listing.proofs.Numbers.{either, test}
 use Rattle.words.specs.Told.{Told, Spot, accepted, refused}
 use Rattle.words.specs.Meaning.{orderFrom}
 use Rattle.words.specs.declared.Line.the-variants.{Movement, Mark}
 use Rattle.lines.proofs.Inverse.{text-length}
 use Rattle.promise.specs.Campaign as model
-use Rattle.promise.specs.Campaign.{request, movement, mark, theEnd, taken, refusal, offer, fit}
-use Rattle.fitness.specs.State.{answerText, width, settingOf, momentOf}
-use Rattle.fitness.specs.Fitness.{placesFit}
+use Rattle.promise.specs.Campaign.{request, movement, mark, theEnd, taken, refusal}
+use Rattle.fitness.specs.State.{answerText, width}
 use Rattle.fitness.specs.declared.State.{State}
 use Rattle.campaign.specs.Calls.{answerOf}
+use Rattle.campaign.proofs.Tells.{within-room}
 use Rattle.printing.specs.Printing.{sequel, more, Printout, inFront, onward, linesFrom, linesIn}
 use Rattle.printing.specs.Answers.{stopTold, fillOf}
 
--- ---- the width of a line
+-- ---- a line
 
--- a line has a byte at least
+-- it has a byte at least
 pub some-byte : (a : model.Answer) → more (sequel a) ≡ true → 1 ≤ width a
 some-byte (movement o) e = omega (arith, text-length (Movement (orderFrom o)))
 some-byte (mark k r) e = omega (arith, text-length (Mark k r))
 some-byte (theEnd k) e = absurd (true≢false (cc))
 some-byte taken e = absurd (true≢false (cc))
 some-byte (refusal k) e = absurd (true≢false (cc))
-
--- and fits the room
-pub within-room : (room : ℕ) (s : State) → width (answerOf (request room) s) ≤ room
-unfolding answerOf model.answer
-within-room room s =
-    let C = settingOf s in
-    let m = momentOf s in
-    by (placesFit s) (fit C m) (m .standing) (ltb room (width (offer C m))) refl
-  where
-    by : (a b c d : Bool) → ltb room (width (offer (settingOf s) (momentOf s))) ≡ d
-        → width (cond a (cond (not b) (refusal 15) (cond c (refusal 13) (cond d (refusal 2) (offer (settingOf s) (momentOf s))))) (refusal 15)) ≤ room
-    by false b c d e = omega arith
-    by true false c d e = omega arith
-    by true true true d e = omega arith
-    by true true false true e = omega arith
-    by true true false false e = ltb-false room (width (offer (settingOf s) (momentOf s))) e
 
 -- ---- the lines
 

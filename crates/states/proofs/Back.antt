@@ -23,7 +23,8 @@ use Rattle.states.specs.States.{stateCount, largest32, runBits, runIn, b
 use Rattle.states.proofs.Parts.{drop-past}
 use Rattle.states.proofs.Within.{within-length, within-at, within-parts, within-same}
 use Rattle.states.proofs.Runs.{bits-fit, all-bits-back, all-runs-back}
-use Rattle.states.proofs.StateWords.{bits-length, last-word, is-state, no-state, none-some}
+use Rattle.decimals.proofs.Inverse.{none-some}
+use Rattle.states.proofs.StateWords.{bits-length, last-word, is-state, no-state}
 
 -- ---- a bit
 
@@ -43,7 +44,7 @@ bit-back (suc (suc w)) h = absurd (omega arith)
 -- ---- a state is read back from its words
 
 -- what the fields of a state can hold
-pub record Kept (s : State) : Type 0 where
+pub record InRange (s : State) : Type 0 where
   pub sized : Sized s
   pub ports : s .plan .ports ≤ largest8
   pub legs : s .plan .legs ≤ largest8
@@ -56,7 +57,7 @@ pub record Kept (s : State) : Type 0 where
   pub opened : s .opened ≤ largest64
   pub errors : s .errors ≤ largest32
 
-module _ (s : State) (k : Kept s) where
+module _ (s : State) (k : InRange s) where
   last-within : within (lastWords s) (largest8 ∷ largest64 ∷ largest64 ∷ largest64 ∷ largest32 ∷ 1 ∷ 1 ∷ []) ≡ true
   unfolding within
   last-within =
@@ -187,4 +188,4 @@ pub words-back : (ws : List ℕ) (s : State) → stateIn ws ≡ some s → state
 words-back ws s e =
     either (test (within ws limits))
     (λ t. let f : stateAt ws ≡ s = one-state (is-state ws t (stateAt ws) refl ∙ e) in ap stateWords (sym f) ∙ words-of ws t)
-    (λ t. absurd (none-some (no-state ws t ∙ e)))
+    (λ t. absurd (none-some s (no-state ws t ∙ e)))

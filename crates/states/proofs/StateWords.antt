@@ -2,7 +2,7 @@
 -- words are, field by field (`state-of`, `words-fit`, `is-state`, `no-state`). That neither loses anything of the other is said in Back.
 -- Assumes nothing.
 use mathlib.Core.Path.{_≡_, refl, sym, ap, _∙_}
-use mathlib.Core.Bool.{Bool, true, false, cond, true≢false}
+use mathlib.Core.Bool.{Bool, true, false, cond}
 use mathlib.Core.List.{List, [], _∷_, _++_, map}
 use mathlib.Core.Option.{Option, none, some}
 use Prim.Native.Nat.{ℕ, _+_, _-_, _≤_, _<_}
@@ -13,6 +13,7 @@ use lib.ListN.{length, getD, take, drop, length-append, length-map, List·getD-m
 use mir.Val.{boolByte}
 use Rattle.listing.specs.Limits.{mostPorts, mostLegs}
 use Rattle.listing.proofs.Numbers.{either, test}
+use Rattle.decimals.proofs.Inverse.{none-some}
 use Rattle.fitness.specs.declared.State.{State}
 use Rattle.fitness.proofs.Places.{Sized}
 use Rattle.crossing.specs.Lines.{largest8}
@@ -129,10 +130,6 @@ pub no-state : (ws : List ℕ) → within ws limits ≡ false → none ≡ state
 unfolding stateIn
 no-state ws e = rw e refl
 
--- words are a state or none
-pub none-some : {s : State} → none ≡ some s → ⊥
-none-some e = true≢false (cc)
-
 -- ---- a bit
 
 -- the byte that the code has of a bool is its bit
@@ -156,4 +153,4 @@ pub state-length : (ws : List ℕ) {s : State} → some s ≡ stateIn ws → len
 state-length ws e =
     either (test (within ws limits))
     (λ t. within-length ws limits t)
-    (λ t. absurd (none-some (no-state ws t ∙ sym e)))
+    (λ t. absurd (none-some _ (no-state ws t ∙ sym e)))

@@ -1,7 +1,7 @@
 -- Words within their limits: the test tells that there are as many words as limits and none is above its own.
 -- Assumes nothing.
 use mathlib.Core.Path.{_≡_, refl, sym, ap}
-use mathlib.Core.Bool.{Bool, true, false, _&&_, and-eq-true-iff, true≢false}
+use mathlib.Core.Bool.{true, false, and-eq-true-iff, true≢false}
 use mathlib.Core.List.{List, [], _∷_, _++_}
 use Prim.Native.Nat.{ℕ, zero, suc, _≤_, _<_}
 use native.Mathlib.Omega.{arith}
@@ -11,17 +11,13 @@ use borrow.Author.Tests.{leb-true, le-leb}
 use Rattle.listing.proofs.Numbers.{either, test}
 use Rattle.states.specs.States.{within}
 
--- both tests hold where their conjunction does
-both : (a b : Bool) → (a && b) ≡ true → (a ≡ true) × (b ≡ true)
-both a b e = and-eq-true-iff a b .0 e
-
 -- there are as many words as limits
 pub within-length : (ws ls : List ℕ) → within ws ls ≡ true → length ws ≡ length ls
 unfolding within
 within-length [] [] e = refl
 within-length [] (l ∷ ls) e = absurd (true≢false (sym e))
 within-length (w ∷ ws) [] e = absurd (true≢false (sym e))
-within-length (w ∷ ws) (l ∷ ls) e = ap suc (within-length ws ls (both (leb w l) (within ws ls) e .1))
+within-length (w ∷ ws) (l ∷ ls) e = ap suc (within-length ws ls (and-eq-true-iff (leb w l) (within ws ls) .0 e .1))
 
 -- and each is at most its own
 pub within-at : (ws ls : List ℕ) → within ws ls ≡ true → (i : ℕ) → i < length ls → getD ws i 0 ≤ getD ls i 0
@@ -29,8 +25,8 @@ unfolding within
 within-at [] [] e i h = absurd (omega arith)
 within-at [] (l ∷ ls) e i h = absurd (true≢false (sym e))
 within-at (w ∷ ws) [] e i h = absurd (omega arith)
-within-at (w ∷ ws) (l ∷ ls) e zero h = leb-true w l (both (leb w l) (within ws ls) e .0)
-within-at (w ∷ ws) (l ∷ ls) e (suc i) h = within-at ws ls (both (leb w l) (within ws ls) e .1) i (omega arith)
+within-at (w ∷ ws) (l ∷ ls) e zero h = leb-true w l (and-eq-true-iff (leb w l) (within ws ls) .0 e .0)
+within-at (w ∷ ws) (l ∷ ls) e (suc i) h = within-at ws ls (and-eq-true-iff (leb w l) (within ws ls) .0 e .1) i (omega arith)
 
 -- such words pass
 pub all-within : (ws ls : List ℕ) → length ws ≡ length ls → ((i : ℕ) → i < length ls → getD ws i 0 ≤ getD ls i 0) → within ws ls ≡ true
@@ -57,7 +53,7 @@ within-parts [] vs [] ms e f = f
 within-parts [] vs (l ∷ ls) ms e f = absurd (true≢false (sym e))
 within-parts (w ∷ ws) vs [] ms e f = absurd (true≢false (sym e))
 within-parts (w ∷ ws) vs (l ∷ ls) ms e f =
-    let t = both (leb w l) (within ws ls) e in
+    let t = and-eq-true-iff (leb w l) (within ws ls) .0 e in
     rw (t .0, within-parts ws vs ls ms (t .1) f) refl
 
 -- a part whose words have one limit

@@ -7,8 +7,7 @@ use borrow.Author.Needs.{needs}
 use Rattle.promise.specs.Campaign.{request}
 use Rattle.campaign.specs.Answers.{answerTold}
 use Rattle.campaign.specs.Calls.{toldOf}
-use Rattle.campaign.proofs.Tells.{told-given, told-refused, left-so, retold}
-use Rattle.printing.proofs.Lines.{within-room}
+use Rattle.campaign.proofs.Tells.{told-given, told-refused, left-so, retold, within-room}
 use Rattle.printing.proofs.Parts.{part-asked, part-bytes, given-as}
 use Rattle.printing.proofs.request_line.Statement.{statement}
 use Rattle.printing.proofs.request_line.Tie as tie

@@ -1,0 +1,147 @@
+//! Groups that go over a fixed set of cases.
+
+use super::made::on_state;
+use crate::calls::{Call, Name};
+use crate::inputs::{self, Rng};
+use crate::Harness;
+use face::raw;
+use reference::campaign::{ERRORS, STANDING, WORDS};
+use reference::list::{at, count_of};
+use reference::plan::{Leg, Plan};
+use reference::told;
+use std::ptr::{null, null_mut};
+
+/// Every byte as a number of ports.
+pub fn count(h: &mut Harness) {
+    for ports in 0..=255 {
+        h.compare(Call::plain(Name::Count { ports }));
+    }
+}
+
+/// Every pattern of 2 to 8 ports: check, rank, unrank, next and previous.
+pub fn circuits(h: &mut Harness) {
+    for n in 2..=8 {
+        for rank in 0..count_of(n) {
+            let pattern = at(n, rank);
+            for name in [Name::Check, Name::Rank, Name::Next, Name::Previous] {
+                h.compare(Call::on_bytes(name, pattern.clone()));
+            }
+            h.compare(Call::on_bytes(Name::Unrank { rank: rank as u64 }, vec![0; n]));
+        }
+    }
+}
+
+/// Every step between blocks of every list of 3 to 20 ports, both ways, by itself and at every depth below a longer pattern.
+pub fn joins(h: &mut Harness) {
+    let mut rng = Rng::of(h.seed, "joins", 0);
+    for short in 3..=20 {
+        let (count, in_a, in_b) = (count_of(short), count_of(short - 1), count_of(short - 2));
+        for block in 0..short as u128 {
+            for edge in [0, in_a, in_b] {
+                for beside in 0..2 {
+                    let place = (block * (in_a + in_b) + edge + count - beside) % count;
+                    for n in short..=20 {
+                        let pattern = inputs::lift(&mut rng, at(short, place), n);
+                        for name in [Name::Next, Name::Previous, Name::Rank] {
+                            h.compare(Call::on_bytes(name, pattern.clone()));
+                        }
+                    }
+                }
+            }
+        }
+    }
+}
+
+/// 'With length 0 a pointer may be null.' Each call that takes a slice, with null for it.
+pub fn null_pointers(h: &mut Harness) {
+    type Made = fn(&mut [u64; 5]) -> u8;
+    fn told_of(call: Made) -> (u8, [u64; 5]) {
+        let mut answer = [u64::MAX; 5];
+        (call(&mut answer), answer)
+    }
+    const LINE: [u64; 4] = [4, 5, 0, 0];
+    let calls: [(&str, Made, Made); 15] = [
+        ("check", |a| unsafe { raw::jidrofex_check(null(), 0, a.as_mut_ptr()) }, |a| told::check(&[], a)),
+        ("check_panel", |a| unsafe { raw::jidrofex_check_panel(null(), 0, a.as_mut_ptr()) }, |a| told::check_panel(&[], a)),
+        ("rank", |a| unsafe { raw::jidrofex_rank(null(), 0, a.as_mut_ptr()) }, |a| told::rank(&[], a)),
+        ("unrank", |a| unsafe { raw::jidrofex_unrank(0, null_mut(), 0, a.as_mut_ptr()) }, |a| told::unrank(0, &mut [], a)),
+        ("next", |a| unsafe { raw::jidrofex_next(null_mut(), 0, a.as_mut_ptr()) }, |a| told::next(&mut [], a)),
+        ("previous", |a| unsafe { raw::jidrofex_previous(null_mut(), 0, a.as_mut_ptr()) }, |a| told::previous(&mut [], a)),
+        ("port_at", |a| unsafe { raw::jidrofex_port_at(null(), 0, 1, a.as_mut_ptr()) }, |a| told::port_at(&[], 1, a)),
+        ("jack_of", |a| unsafe { raw::jidrofex_jack_of(null(), 0, 1, a.as_mut_ptr()) }, |a| told::jack_of(&[], 1, a)),
+        ("carry", |a| unsafe { raw::jidrofex_carry(null_mut(), 0, LINE.as_ptr(), a.as_mut_ptr()) }, |a| told::carry(&mut [], &LINE, a)),
+        ("write_line", |a| unsafe { raw::jidrofex_write_line(LINE.as_ptr(), null_mut(), 0, a.as_mut_ptr()) }, |a| told::write_line(&LINE, &mut [], a)),
+        ("read_line", |a| unsafe { raw::jidrofex_read_line(null(), 0, 0, a.as_mut_ptr()) }, |a| told::read_line(&[], 0, a)),
+        ("read_line", |a| unsafe { raw::jidrofex_read_line(null(), 0, usize::MAX, a.as_mut_ptr()) }, |a| told::read_line(&[], usize::MAX, a)),
+        ("begin", |a| unsafe { raw::jidrofex_begin(null(), 0, null_mut(), 0, a.as_mut_ptr()) }, |a| told::begin(&[], &mut [], a)),
+        ("report", |a| unsafe { raw::jidrofex_report(null_mut(), 0, 0, a.as_mut_ptr()) }, |a| told::report(&mut [], 0, a)),
+        ("request", |a| unsafe { raw::jidrofex_request(null_mut(), 0, null_mut(), 0, a.as_mut_ptr()) }, |a| told::request(&mut [], &mut [], a)),
+    ];
+    for (name, library, reference) in calls {
+        let wanted = told_of(reference);
+        h.compare_made(&format!("{name} with null pointers"), wanted.0, told_of(library), wanted);
+    }
+    let begun = h.compare(Call::on_both(Name::Begin, b"ports=2\nlegs=1\nstart=0\nrun=0\n".to_vec(), vec![0; WORDS])).words;
+    type OnState = unsafe extern "C" fn(*mut u64, usize, *mut u8, usize, *mut u64) -> u8;
+    let on_state: [(&str, OnState); 2] = [("request", raw::jidrofex_request), ("orders", raw::jidrofex_orders)];
+    for (name, call) in on_state {
+        for (words, wanted) in [(WORDS, 2), (0, 15)] {
+            let (mut state, mut answer) = (begun.clone(), [u64::MAX; 5]);
+            let lent = if words == 0 { null_mut() } else { state.as_mut_ptr() };
+            let number = unsafe { call(lent, words, null_mut(), 0, answer.as_mut_ptr()) };
+            h.compare_made(&format!("{name} on {words} words with a null buffer"), wanted, (number, answer, &state), (wanted, [0; 5], &begun));
+        }
+    }
+    let (mut state, mut answer) = (begun, [u64::MAX; 5]);
+    let number = unsafe { raw::jidrofex_begin(null(), 0, state.as_mut_ptr(), WORDS, answer.as_mut_ptr()) };
+    h.compare_made("begin with a null text", 11, (number, answer, state), (11, [1, 0, 0, 0, 0], vec![0; WORDS]));
+}
+
+/// Errors at their limit: a standing mark with 65,533 errors and up, each report twice over, and the request between.
+pub fn errors(h: &mut Harness) {
+    let plan = Plan { ports: 5, legs: vec![Leg { start: 7, run: -3 }] };
+    let first = h.compare(Call::on_both(Name::Begin, inputs::plan_text(&plan), vec![0; WORDS])).words;
+    let standing = {
+        let mut state = first;
+        while state[STANDING] == 0 {
+            state = h.compare(Call::on_both(Name::Request, vec![0; 45], state)).words;
+        }
+        state
+    };
+    for errors in [0, 1, 65_533, 65_534, 65_535, 65_536, 65_537, 131_071, 1 << 32, u64::MAX] {
+        for kinds in [[1, 1], [1, 0], [1, 2], [0, 1], [2, 1]] {
+            let mut state = standing.clone();
+            state[ERRORS] = errors;
+            for kind in kinds {
+                state = h.compare(Call::on_both(Name::Report { kind }, vec![], state)).words;
+                state = h.compare(Call::on_both(Name::Request, vec![0; 45], state)).words;
+            }
+        }
+    }
+}
+
+/// Each of the 61 words of several states, at its moments, with each of a list of values; and states of other lengths.
+pub fn words(h: &mut Harness) {
+    let mut rng = Rng::of(h.seed, "words", 0);
+    for _ in 0..30 {
+        let state = inputs::reached(&mut rng).to_words();
+        for place in 0..WORDS {
+            let old = state[place];
+            for value in [old, old.wrapping_add(1), old.wrapping_sub(1), 0, 256, old.wrapping_add(256), old ^ (1 << 32), old ^ (1 << 63), u64::MAX] {
+                let mut changed = state.to_vec();
+                changed[place] = value;
+                on_state(h, &mut rng, changed);
+            }
+        }
+        for length in [0, 1, 60, 62, 122, 317] {
+            let mut other = state.to_vec();
+            other.resize(length, 0);
+            for name in [Name::Request, Name::Report { kind: 0 }, Name::Orders, Name::Begin] {
+                h.compare(Call::on_both(name, b"ports=2\nlegs=1\nstart=0\nrun=0\n".to_vec(), other.clone()));
+            }
+        }
+        for name in [Name::Request, Name::Report { kind: 3 }, Name::Report { kind: 0 }] {
+            h.compare(Call::on_both(name, vec![0; 45], state.to_vec()));
+        }
+    }
+}

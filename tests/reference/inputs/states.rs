@@ -1,0 +1,114 @@
+//! States: reached by calls, one step away from those, and by chance.
+
+use super::{pattern, permutation, plan, ports, rank, run, short_plan, wide, Rng};
+use reference::campaign::{State, COVERED, ENDED, ERRORS, LEG, LEGS, OPEN, PANEL, PORTS, RUNS, STANDING, STARTS, STEP, WORDS};
+use reference::list::{apply, place, count_of, difference, Move};
+
+/// A state that calls on an accepted plan leave: at any leg and step, with any reports before it, at each of the moments that there are.
+pub fn reached(rng: &mut Rng) -> State {
+    let mut plan = if rng.chance(50) { plan(rng) } else { short_plan(rng, 12) };
+    let leg = if rng.chance(30) { plan.legs.len() - 1 } else { rng.below(plan.legs.len()) };
+    let run = plan.legs[leg].run;
+    let magnitude = run.unsigned_abs();
+    let step = rng.below_wide(magnitude + 1).max(rng.pick(&[0, 0, 1.min(magnitude), magnitude]));
+    if rng.chance(50) {
+        // the mark's pattern beside a step between blocks
+        let aim = place(&pattern(rng, plan.ports)) as i128;
+        plan.legs[leg].start = (aim - run.signum() * step as i128).rem_euclid(count_of(plan.ports) as i128) as u128;
+    }
+    let mut state = State::first(plan);
+    let plan = &state.plan;
+    let wanted = plan.pattern(leg, step);
+    let moment = rng.below(6);
+    state.ended = moment == 0 && plan.is_last(leg, step);
+    state.standing = !state.ended && moment <= 2;
+    state.panel = wanted.clone();
+    if !state.standing && !state.ended && moment > 3 {
+        if step == 0 {
+            state.panel = permutation(rng, plan.ports);
+        } else {
+            state.panel = plan.pattern(leg, step - 1);
+            if let (4, Some(Move::TwoSwaps(a, b, _, _))) = (moment, difference(&state.panel, &wanted)) {
+                apply(Move::Swap(a, b), &mut state.panel);
+            }
+        }
+    }
+    let closed = if state.ended { plan.marks() } else { plan.number(leg, step) };
+    state.covered = rng.below_wide(closed + 1);
+    state.open = closed - state.covered;
+    state.errors = rng.pick(&[0, 1, 2, 65_534, 65_535]);
+    (state.leg, state.step) = (leg, step);
+    state
+}
+
+/// One word changed.
+pub fn damage_word(rng: &mut Rng, words: &mut [u64], place: usize) {
+    let old = words[place];
+    words[place] = match rng.below(12) {
+        0 => old.wrapping_add(1),
+        1 => old.wrapping_sub(1),
+        2 => 0,
+        3 => 1,
+        4 => rng.next(),
+        5 => u64::MAX,
+        6 => 256,
+        7 => old.wrapping_add(256),
+        8 => old.wrapping_add(1 << 32),
+        9 => old ^ (1 << 63),
+        10 => old.wrapping_neg(),
+        _ => wide(rng),
+    };
+}
+
+/// Two words changed so that what they say together stays near the rules.
+pub fn damage_pair(rng: &mut Rng, words: &mut [u64]) {
+    match rng.below(5) {
+        0 => words.swap(PANEL + rng.below(20), PANEL + rng.below(20)),
+        1 => {
+            words[COVERED] = words[COVERED].wrapping_add(1);
+            words[OPEN] = words[OPEN].wrapping_sub(1);
+        }
+        2 => {
+            words[COVERED] = words[COVERED].wrapping_add(1 << 63);
+            words[OPEN] = words[OPEN].wrapping_add(1 << 63);
+        }
+        3 => {
+            words[STANDING] ^= 1;
+            words[ENDED] ^= 1;
+        }
+        _ => {
+            words[STEP] = words[STEP].wrapping_add(1);
+            words[COVERED] = words[COVERED].wrapping_add(1);
+        }
+    }
+}
+
+/// A state of words taken by chance, each mostly within its own range.
+pub fn random_state(rng: &mut Rng) -> Vec<u64> {
+    if rng.chance(10) {
+        return rng.pick(&[[0; WORDS], [1; WORDS], [u64::MAX; WORDS]]).to_vec();
+    }
+    if rng.chance(10) {
+        return (0..WORDS).map(|_| rng.next()).collect();
+    }
+    let mut words = vec![0; WORDS];
+    let n = ports(rng);
+    let legs = rng.between(1, 16);
+    words[PORTS] = if rng.chance(95) { n as u64 } else { wide(rng) };
+    words[LEGS] = if rng.chance(95) { legs as u64 } else { wide(rng) };
+    for l in 0..legs {
+        words[STARTS + l] = rank(rng, n) as u64;
+        words[RUNS + l] = run(rng, count_of(n)) as i64 as u64;
+    }
+    for (j, port) in permutation(rng, n).into_iter().enumerate() {
+        words[PANEL + j] = port.into();
+    }
+    words[LEG] = if rng.chance(60) { 0 } else { rng.below(legs) as u64 };
+    words[STEP] = if rng.chance(60) { 0 } else { rng.below(3) as u64 };
+    words[COVERED] = if rng.chance(60) { 0 } else { wide(rng) };
+    words[OPEN] = if rng.chance(80) { 0 } else { wide(rng) };
+    words[ERRORS] = rng.pick(&[0, 1, 65_534, 65_535, 65_536, 131_071, u64::MAX]);
+    words[STANDING] = rng.pick(&[0, 0, 0, 1, 2]);
+    words[ENDED] = rng.pick(&[0, 0, 0, 1, 256]);
+    words
+}
