@@ -17,14 +17,14 @@ use Rattle.promise.specs.Campaign.{todo, toCome, rankOf, closedMarks, offer}
 use Rattle.promise.specs.Derangements.{derangements}
 use Rattle.promise.proofs.Ways.{coming}
 use Rattle.promise.proofs.Derangements.{lawful-on}
-use Rattle.ways.proofs.Walks.{walk-listed}
-use Rattle.fitness.specs.State.{settingOf, momentOf}
-use Rattle.fitness.specs.Fitness.{placesFit, fit}
-use Rattle.fitness.specs.declared.State.{State}
-use Rattle.fitness.proofs.Fit.{fit-parts, moment-fit, fit-inside}
-use Rattle.fitness.proofs.Places.{Sized, number-room}
-use Rattle.legs.specs.Rules.{legsOf}
-use Rattle.legs.proofs.Marks.{number-before}
+use Rattle.campaign_way.proofs.Walks.{walk-listed}
+use Rattle.campaign_state.specs.State.{settingOf, momentOf}
+use Rattle.campaign_state.specs.Fitness.{placesFit, fit}
+use Rattle.campaign_state.specs.declared.State.{State}
+use Rattle.campaign_state.proofs.Fit.{fit-parts, moment-fit, fit-inside}
+use Rattle.campaign_state.proofs.Places.{Sized, number-room}
+use Rattle.plan_rules.specs.Rules.{legsOf}
+use Rattle.plan_rules.proofs.Marks.{number-before}
 use Rattle.promise.proofs.Steps.{due-standing}
 use Rattle.campaign.specs.Calls.{answerOf, roomed}
 

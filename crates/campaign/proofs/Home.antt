@@ -12,7 +12,7 @@ use Rattle.listing.specs.Ends.{home}
 use Rattle.listing.specs.Limits.{mostPorts, mostLegs}
 use Rattle.listing.proofs.Panels.{length-tabulate}
 use Rattle.words.specs.Told.{Told, accepted, refused}
-use Rattle.levels.proofs.Filling.{tabulate-more}
+use Rattle.pattern_steps.proofs.Filling.{tabulate-more}
 use Rattle.plans.specs.Grammar.{Planned}
 use Rattle.plans.specs.Answers.{padded, placed, heldOf}
 use Rattle.plans.specs.Calls.{device, readPlanOf}

@@ -11,9 +11,9 @@ use lib.ListN.{length, take, drop, take-append-drop}
 use borrow.Author.Tests.{lt-ltb, le-ltb}
 use Rattle.promise.specs.Campaign as model
 use Rattle.promise.specs.Campaign.{Call, here, closed, placed, refusal, ran, error, gaveUp, heard, withMark, withCounts}
-use Rattle.fitness.specs.State.{settingOf, momentOf, atMoment}
-use Rattle.fitness.specs.Fitness.{placesFit, InPlan}
-use Rattle.fitness.specs.declared.State.{State}
+use Rattle.campaign_state.specs.State.{settingOf, momentOf, atMoment}
+use Rattle.campaign_state.specs.Fitness.{placesFit, InPlan}
+use Rattle.campaign_state.specs.declared.State.{State}
 use Rattle.campaign.specs.Calls.{after}
 
 -- the state with its plan, and everything else as given

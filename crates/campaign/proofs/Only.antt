@@ -3,11 +3,10 @@
 use mathlib.Core.Path.{_≡_, refl, sym, ap, _∙_}
 use mathlib.Core.List.{List}
 use Prim.Native.Nat.{ℕ}
-use Rattle.words.proofs.Once.{order-once, refusal-once}
-use Rattle.plans.proofs.Only.{judged-once}
+use Rattle.words.proofs.Once.{order-once, refusal-once, outcome-once}
 use Rattle.promise.specs.Campaign as model
 use Rattle.promise.specs.Campaign.{Call}
-use Rattle.fitness.specs.declared.State.{State}
+use Rattle.campaign_state.specs.declared.State.{State}
 use Rattle.campaign.specs.Calls.{bytesOf}
 use Rattle.campaign.specs.Answers.{answerTold, heardTold, RequestIs, ReportIs, BeginIs}
 use Rattle.campaign.specs.declared.Begun.{Begun}
@@ -15,8 +14,8 @@ use Rattle.campaign.specs.declared.Requested.{Requested}
 use Rattle.campaign.specs.declared.Reported.{Reported}
 use Rattle.campaign.specs.declared.Answer.{Answer}
 use Rattle.campaign.specs.declared.Answer.the-variants.{Movement, Mark, End, Refused as Answer-Refused}
-use Rattle.campaign.specs.declared.Heard.{Heard}
-use Rattle.campaign.specs.declared.Heard.the-variants.{Taken, Refused as Heard-Refused}
+use Rattle.words.specs.declared.Outcome.{Outcome}
+use Rattle.words.specs.declared.Outcome.the-variants.{Accepted, Refused}
 
 -- ---- two answers that tell the same
 
@@ -38,11 +37,11 @@ answer-once (Answer-Refused f) (Mark j q) e = cc
 answer-once (Answer-Refused f) (End j) e = cc
 answer-once (Answer-Refused f) (Answer-Refused g) e = ap Answer-Refused (refusal-once f g e)
 
-heard-once : (a b : Heard) → heardTold a ≡ heardTold b → a ≡ b
-heard-once Taken Taken e = refl
-heard-once Taken (Heard-Refused f) e = cc
-heard-once (Heard-Refused f) Taken e = cc
-heard-once (Heard-Refused f) (Heard-Refused g) e = ap Heard-Refused (refusal-once f g e)
+heard-once : (a b : Outcome) → heardTold a ≡ heardTold b → a ≡ b
+heard-once Accepted Accepted e = refl
+heard-once Accepted (Refused f) e = cc
+heard-once (Refused f) Accepted e = cc
+heard-once (Refused f) (Refused g) e = ap Refused (refusal-once f g e)
 
 -- ---- one answer, one state and one list of bytes to each call
 
@@ -64,6 +63,6 @@ only-report c a s r q e f =
 
 pub only-begin : (t : List ℕ) (r q : Begun) → BeginIs t r → BeginIs t q → r ≡ q
 only-begin t r q e f =
-    let x : r .judged ≡ q .judged = judged-once (r .judged) (q .judged) (e .judged ∙ sym (f .judged)) in
+    let x : r .judged ≡ q .judged = outcome-once (r .judged) (q .judged) (e .judged ∙ sym (f .judged)) in
     let y : r .campaign .state ≡ q .campaign .state = e .state ∙ sym (f .state) in
     λ i. record { judged = x i; campaign = record { state = y i } }

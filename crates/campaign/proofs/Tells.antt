@@ -16,15 +16,15 @@ use Rattle.words.specs.declared.Place.the-variants.{Nowhere}
 use Rattle.words.proofs.Told.{not-both}
 use Rattle.promise.specs.Campaign as model
 use Rattle.promise.specs.Campaign.{Call, request, report, movement, mark, theEnd, taken, refusal, fit, offer}
-use Rattle.fitness.specs.State.{answerText, width, settingOf, momentOf}
-use Rattle.fitness.specs.Fitness.{placesFit}
-use Rattle.fitness.specs.declared.State.{State}
+use Rattle.campaign_state.specs.State.{answerText, width, settingOf, momentOf}
+use Rattle.campaign_state.specs.Fitness.{placesFit}
+use Rattle.campaign_state.specs.declared.State.{State}
 use Rattle.campaign.specs.Calls.{answerOf, toldOf, after, leftOf, over, bytesOf, lineIs}
 use Rattle.campaign.specs.Answers.{answerTold, heardTold, RequestIs, ReportIs}
 use Rattle.campaign.specs.declared.Requested.{Requested}
 use Rattle.campaign.specs.declared.Reported.{Reported}
 use Rattle.campaign.specs.declared.Answer.the-variants.{Refused as Answer-Refused}
-use Rattle.campaign.specs.declared.Heard.the-variants.{Taken, Refused as Heard-Refused}
+use Rattle.words.specs.declared.Outcome.the-variants.{Accepted, Refused}
 use Rattle.campaign.proofs.Moments.{made, panel-stays, moment-stays, refusal-leaves}
 
 module _ (c : Call) (a : model.Answer) (s : State) where
@@ -40,7 +40,7 @@ module _ (c : Call) (a : model.Answer) (s : State) where
 
   -- a refused report
   pub report-refused : (r : Reported) (why : Reason) (k : ℕ)
-      → r ≡ record { campaign = record { state = s }; answer = Heard-Refused (record { reason = why; place = Nowhere }) }
+      → r ≡ record { campaign = record { state = s }; answer = Refused (record { reason = why; place = Nowhere }) }
       → numberOf why ≡ k → a ≡ refusal k → ReportIs c a s r
   report-refused r why k e n f = record {
     answer = ap (λ x. heardTold (x .answer)) e ∙ ap (λ j. refused j nowhere) n ∙ ap toldOf (sym f);
@@ -48,7 +48,7 @@ module _ (c : Call) (a : model.Answer) (s : State) where
   }
 
   -- a report that is taken
-  pub report-taken : (r : Reported) (t : State) → r ≡ record { campaign = record { state = t }; answer = Taken } → a ≡ taken → t ≡ after c taken s
+  pub report-taken : (r : Reported) (t : State) → r ≡ record { campaign = record { state = t }; answer = Accepted } → a ≡ taken → t ≡ after c taken s
       → ReportIs c a s r
   report-taken r t e f g = record {
     answer = ap (λ x. heardTold (x .answer)) e ∙ ap toldOf (sym f);

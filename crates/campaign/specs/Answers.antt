@@ -4,21 +4,20 @@ use Prim.Native.Nat.{ℕ}
 use mathlib.Core.Path.{_≡_}
 use mathlib.Core.List.{List}
 use Rattle.words.specs.Told.{Told, accepted, then}
-use Rattle.words.specs.Meaning.{orderOf, refusalOf}
+use Rattle.words.specs.Meaning.{orderOf, refusalOf, outcomeTold}
 use Rattle.promise.specs.Campaign as model
 use Rattle.promise.specs.Campaign.{Call, movement, mark, theEnd, taken}
-use Rattle.plans.specs.Answers.{judgedTold}
 use Rattle.plans.specs.Calls.{readPlanOf}
-use Rattle.fitness.specs.State.{width}
-use Rattle.fitness.specs.declared.State.{State}
+use Rattle.campaign_state.specs.State.{width}
+use Rattle.campaign_state.specs.declared.State.{State}
 use Rattle.campaign.specs.Calls.{toldOf, after, begunOf}
 use Rattle.campaign.specs.declared.Begun.{Begun}
 use Rattle.campaign.specs.declared.Requested.{Requested}
 use Rattle.campaign.specs.declared.Reported.{Reported}
 use Rattle.campaign.specs.declared.Answer.{Answer}
 use Rattle.campaign.specs.declared.Answer.the-variants.{Movement, Mark, End, Refused as Answer-Refused}
-use Rattle.campaign.specs.declared.Heard.{Heard}
-use Rattle.campaign.specs.declared.Heard.the-variants.{Taken, Refused as Heard-Refused}
+use Rattle.words.specs.declared.Outcome.{Outcome}
+use Rattle.words.specs.declared.Outcome.the-variants.{Accepted, Refused}
 
 abbrev pub answerTold : Answer → Told model.Answer
 answerTold (Movement o) = accepted (movement (orderOf o))
@@ -26,9 +25,10 @@ answerTold (Mark k r) = accepted (mark k r)
 answerTold (End k) = accepted (theEnd k)
 answerTold (Answer-Refused f) = refusalOf f
 
-abbrev pub heardTold : Heard → Told model.Answer
-heardTold Taken = accepted taken
-heardTold (Heard-Refused f) = refusalOf f
+-- of a report: taken, or refused
+abbrev pub heardTold : Outcome → Told model.Answer
+heardTold Accepted = accepted taken
+heardTold (Refused f) = refusalOf f
 
 -- r is the answer a to the call c on s: what it tells, the state that it leaves, how many bytes its line takes
 pub record RequestIs (c : Call) (a : model.Answer) (s : State) (r : Requested) : Type 0 where
@@ -43,5 +43,5 @@ pub record ReportIs (c : Call) (a : model.Answer) (s : State) (r : Reported) : T
 
 -- r is what a text begins: how it is judged, and the campaign's first state
 pub record BeginIs (t : List ℕ) (r : Begun) : Type 0 where
-  pub judged : judgedTold (r .judged) ≡ then (readPlanOf t) (λ p. accepted tt)
+  pub judged : outcomeTold (r .judged) ≡ then (readPlanOf t) (λ p. accepted tt)
   pub state : r .campaign .state ≡ begunOf t

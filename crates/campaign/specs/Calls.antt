@@ -17,9 +17,9 @@ use Rattle.plans.specs.Calls.{readPlanOf}
 use Rattle.plans.specs.declared.Plan.{Plan}
 use Rattle.promise.specs.Campaign as model
 use Rattle.promise.specs.Campaign.{Call, request, movement, mark, theEnd, taken, refusal}
-use Rattle.fitness.specs.State.{answerText, width, settingOf, momentOf, atMoment}
-use Rattle.fitness.specs.Fitness.{placesFit}
-use Rattle.fitness.specs.declared.State.{State}
+use Rattle.campaign_state.specs.State.{answerText, width, settingOf, momentOf, atMoment}
+use Rattle.campaign_state.specs.Fitness.{placesFit}
+use Rattle.campaign_state.specs.declared.State.{State}
 
 -- the answer to a call
 unfoldable pub answerOf : Call → State → model.Answer

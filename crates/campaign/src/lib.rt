@@ -3,9 +3,9 @@ pub mod beginning;
 pub mod reports;
 pub mod requests;
 
-use fitness::State;
-use plans::Judged;
+use campaign_state::State;
 use words::Order;
+use words::Outcome;
 use words::Refusal;
 
 // A campaign: its state.
@@ -15,7 +15,7 @@ pub struct Campaign {
 
 // A text judged as a plan, and the campaign on it: its first state, or all zeros if it was refused.
 pub struct Begun {
-    pub judged: Judged,
+    pub judged: Outcome,
     pub campaign: Campaign,
 }
 
@@ -34,14 +34,8 @@ pub struct Requested {
     pub written: usize,
 }
 
-// The answer to a report.
-pub enum Heard {
-    Taken,
-    Refused(Refusal),
-}
-
 // A report's answer, and the campaign that it leaves.
 pub struct Reported {
     pub campaign: Campaign,
-    pub answer: Heard,
+    pub answer: Outcome,
 }

@@ -1,20 +1,20 @@
 // Reports on the standing mark.
+use campaign_state::State;
+use campaign_state::judging::Stance;
+use campaign_state::judging::judge;
 use crate::Campaign;
-use crate::Heard;
 use crate::Reported;
-use fitness::State;
-use fitness::judging::Stance;
-use fitness::judging::judge;
-use legs::leg_at;
+use plan_rules::leg_at;
+use words::Outcome;
 use words::Reason;
-use words::nowhere;
+use words::refusals::nowhere;
 ghost use mathlib.Core.Path.{_≡_};
 ghost use mathlib.Core.Bool.{true, false};
 ghost use Rattle.words.specs.declared.Place.the-variants.{Nowhere};
 ghost use Rattle.promise.specs.Campaign.{report, closed};
-ghost use Rattle.fitness.specs.State.{settingOf, momentOf, atMoment};
-ghost use Rattle.fitness.specs.Fitness.{fit, InPlan};
-ghost use Rattle.campaign.specs.declared.Heard.the-variants.{Taken, Refused};
+ghost use Rattle.campaign_state.specs.State.{settingOf, momentOf, atMoment};
+ghost use Rattle.campaign_state.specs.Fitness.{fit, InPlan};
+ghost use Rattle.words.specs.declared.Outcome.the-variants.{Accepted, Refused};
 ghost use Rattle.campaign.specs.Calls.{answerOf};
 ghost use Rattle.campaign.specs.Answers.{ReportIs};
 
@@ -47,17 +47,17 @@ fn refused(s: State, reason: Reason) -> Reported
 {
     Reported {
         campaign: Campaign { state: s },
-        answer: Heard::Refused(nowhere(reason)),
+        answer: Outcome::Refused(nowhere(reason)),
     }
 }
 
 // A report that is taken.
 fn taken(s: State) -> Reported
-    ensures { λ r. ⌜ r ≡ record { campaign = record { state = s }; answer = Taken } ⌝ }
+    ensures { λ r. ⌜ r ≡ record { campaign = record { state = s }; answer = Accepted } ⌝ }
 {
     Reported {
         campaign: Campaign { state: s },
-        answer: Heard::Taken,
+        answer: Outcome::Accepted,
     }
 }
 

@@ -1,17 +1,16 @@
 // The cases of the paper's 'To run'.
-use crate::says;
-use crate::says::Told;
 use campaign::Campaign;
-use checks::answers::Checked;
-use checks::checking::check;
-use patterns::answers::Counted;
+use crate::says::Told;
+use crate::says;
+use pattern_check::checking::check;
 use patterns::counting::count;
-use plans::Judged;
+use words::Numbered;
+use words::Outcome;
 
 fn checked(p: &[u8]) -> Told {
     match check(p) {
-        Checked::Sound => says::accepted(),
-        Checked::Refused(f) => says::refused(f),
+        Outcome::Accepted => says::accepted(),
+        Outcome::Refused(f) => says::refused(f),
     }
 }
 
@@ -19,15 +18,15 @@ fn planned(text: &[u8]) -> Told {
     let begun = Campaign::begin(text);
     let judged = begun.judged;
     match judged {
-        Judged::Accepted => says::accepted(),
-        Judged::Refused(f) => says::refused(f),
+        Outcome::Accepted => says::accepted(),
+        Outcome::Refused(f) => says::refused(f),
     }
 }
 
 fn numbered(ports: u8) -> Told {
     match count(ports) {
-        Counted::Patterns(_) => says::accepted(),
-        Counted::Refused(f) => says::refused(f),
+        Numbered::Is(_) => says::accepted(),
+        Numbered::Refused(f) => says::refused(f),
     }
 }
 

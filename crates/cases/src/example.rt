@@ -1,15 +1,15 @@
 // The paper's example: its orders are printed, read back line by line and carried out on a panel; at each mark the panel has the pattern of the line's rank.
-use crate::says;
 use campaign::Campaign;
-use panel::answers::Carried;
+use crate::says;
+use line_reader::answers::ReadLine;
+use line_reader::order_lines::read_line;
 use panel::lines::carry;
-use patterns::answers::Ranked;
 use patterns::ranking::rank;
 use printing::Filled;
 use printing::fill;
-use reading::answers::ReadLine;
-use reading::order_lines::read_line;
 use words::Line;
+use words::Numbered;
+use words::Outcome;
 
 // A mark: the rank of what stands on the panel beside the line's.
 fn met(panel: &[u8], number: u64, wanted: u64) -> bool {
@@ -19,18 +19,18 @@ fn met(panel: &[u8], number: u64, wanted: u64) -> bool {
     says::number(wanted);
     says::text(b" meets rank ");
     match rank(panel) {
-        Ranked::At(k) => {
+        Numbered::Is(k) => {
             says::number(k);
             k == wanted
         }
-        Ranked::Refused(_) => false,
+        Numbered::Refused(_) => false,
     }
 }
 
 fn carried(panel: &mut [u8], line: Line) -> bool {
     match carry(panel, line) {
-        Carried::Done => true,
-        Carried::Refused(_) => false,
+        Outcome::Accepted => true,
+        Outcome::Refused(_) => false,
     }
 }
 

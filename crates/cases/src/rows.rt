@@ -1,11 +1,11 @@
 // Every row of a table: the pattern of its rank, the rank of its pattern, and the rows after and before it round the circuit.
-use crate::says;
 use check::same;
-use patterns::answers::Ranked;
+use crate::says;
 use patterns::neighbours::next;
 use patterns::neighbours::previous;
 use patterns::ranking::rank;
 use patterns::ranking::unrank;
+use words::Numbered;
 
 // The row with number i from 0, of n bytes; no bytes where there is none.
 fn row(table: &[u8], n: usize, i: usize) -> &[u8] {
@@ -48,11 +48,11 @@ fn left(what: &[u8], p: &[u8], r: &[u8]) -> bool {
 fn by_rank(place: u64, r: &[u8]) -> bool {
     says::text(b", rank ");
     match rank(r) {
-        Ranked::At(k) => {
+        Numbered::Is(k) => {
             says::number(k);
             k == place
         }
-        Ranked::Refused(_) => false,
+        Numbered::Refused(_) => false,
     }
 }
 

@@ -21,11 +21,11 @@ use Rattle.plans.specs.Calls.{device, readPlanOf}
 use Rattle.plans.specs.declared.Plan.{Plan}
 use Rattle.plans.proofs.Plans.{accepted-fits}
 use Rattle.plans.proofs.Runs.{held-planned, held-places}
-use Rattle.legs.specs.Rules.{planRuled}
-use Rattle.legs.proofs.Rules.{tells-ruled}
-use Rattle.fitness.specs.State.{width, settingOf, momentOf}
-use Rattle.fitness.specs.Fitness.{emptyFrom, placesFit}
-use Rattle.fitness.proofs.Places.{tells-empty}
+use Rattle.plan_rules.specs.Rules.{planRuled}
+use Rattle.plan_rules.proofs.Rules.{tells-ruled}
+use Rattle.campaign_state.specs.State.{width, settingOf, momentOf}
+use Rattle.campaign_state.specs.Fitness.{emptyFrom, placesFit}
+use Rattle.campaign_state.proofs.Places.{tells-empty}
 use Rattle.campaign.specs.Calls.{firstState, begunOf}
 
 -- ---- places beyond a list

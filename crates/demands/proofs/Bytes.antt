@@ -18,9 +18,9 @@ use Rattle.listing.proofs.Limits.{count-20}
 use Rattle.words.specs.Told.{accepted}
 use Rattle.words.specs.declared.Line.{Line}
 use Rattle.words.proofs.Once.{order-there}
-use Rattle.checks.proofs.Accepted.{Panel, panel-accepted}
-use Rattle.lines.specs.Format.{lineText}
-use Rattle.lines.proofs.Inverse.{read-written, campaign-proper}
+use Rattle.pattern_check.proofs.Accepted.{Panel, panel-accepted}
+use Rattle.line_format.specs.Format.{lineText}
+use Rattle.line_format.proofs.Inverse.{read-written, campaign-proper}
 use Rattle.panel.specs.Calls as panel
 use Rattle.panel.specs.Calls.{carryOf, carryBytes}
 use Rattle.panel.proofs.Accepted.{carry-accepted}
@@ -34,8 +34,8 @@ use Rattle.promise.proofs.Marks.{closed-so}
 use Rattle.promise.proofs.Steps.{Does, closes, errs, refuses}
 use Rattle.plans.specs.Grammar.{Planned}
 use Rattle.plans.specs.Calls.{readPlanOf}
-use Rattle.fitness.specs.State.{answerLine, textOf, momentOf}
-use Rattle.fitness.specs.declared.State.{State}
+use Rattle.campaign_state.specs.State.{answerLine, textOf, momentOf}
+use Rattle.campaign_state.specs.declared.State.{State}
 use Rattle.campaign.specs.Calls.{answerOf, leftOf, bytesOf, begunOf}
 use Rattle.campaign.proofs.Tells.{within-room}
 use Rattle.demands.specs.Code.{campaignOf, Called, asks, tells, turnsOf, leftAfter}

@@ -20,8 +20,8 @@ use Rattle.promise.proofs.Progress as model
 use Rattle.promise.proofs.Refusals.{offered-so, no-refusal, served, ran-taken}
 use Rattle.plans.specs.Grammar.{Planned}
 use Rattle.plans.specs.Calls.{readPlanOf}
-use Rattle.fitness.specs.State.{width, momentOf}
-use Rattle.fitness.specs.declared.State.{State}
+use Rattle.campaign_state.specs.State.{width, momentOf}
+use Rattle.campaign_state.specs.declared.State.{State}
 use Rattle.campaign.specs.Calls.{answerOf, leftOf, begunOf}
 use Rattle.demands.specs.Code.{campaignOf, Called, callOf, turnsOf, leftAfter, dueCall, promptCalls}
 use Rattle.demands.proofs.Kept.{answer-on}

@@ -15,11 +15,11 @@ use Rattle.promise.specs.Campaign.{Setting, Call, request, report, Word, wordOf
 use Rattle.promise.specs.Campaign.{Answer, movement, mark, theEnd, taken, refusal, here, answer, closed, heard, after}
 use Rattle.promise.specs.Bench.{Turn, run, leaves}
 use Rattle.plans.specs.Calls.{device}
-use Rattle.legs.specs.Rules.{planRuled}
-use Rattle.fitness.specs.State.{settingOf, momentOf, atMoment}
-use Rattle.fitness.specs.Fitness.{emptyFrom, placesFit}
-use Rattle.fitness.specs.declared.State.{State}
-use Rattle.fitness.proofs.Places.{empty-from}
+use Rattle.plan_rules.specs.Rules.{planRuled}
+use Rattle.campaign_state.specs.State.{settingOf, momentOf, atMoment}
+use Rattle.campaign_state.specs.Fitness.{emptyFrom, placesFit}
+use Rattle.campaign_state.specs.declared.State.{State}
+use Rattle.campaign_state.proofs.Places.{empty-from}
 use Rattle.campaign.specs.Calls.{answerOf, leftOf}
 use Rattle.demands.specs.Code.{Called, callOf, turnsOf, leftAfter}
 

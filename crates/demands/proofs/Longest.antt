@@ -13,7 +13,7 @@ use lib.ListN.{length, getD, replicate, length-replicate}
 use Rattle.listing.specs.Limits.{mostLegs}
 use Rattle.listing.proofs.Numbers.{either, test, below?}
 use Rattle.words.specs.Told.{accepted}
-use Rattle.lines.proofs.Longest.{mark-45}
+use Rattle.line_format.proofs.Longest.{mark-45}
 use Rattle.promise.specs.Plan.{legAt, rankAt, ranks, number}
 use Rattle.promise.specs.Campaign.{Setting, request, report, wordOf, isError, isClosing, Answer, movement, mark, theEnd, taken, refusal, fit, offer, answer}
 use Rattle.promise.specs.Campaign as model
@@ -26,9 +26,9 @@ use Rattle.promise.proofs.Refusals.{refused-so, served}
 use Rattle.plans.specs.Grammar.{Planned, planText}
 use Rattle.plans.specs.Calls.{readPlanOf}
 use Rattle.plans.proofs.Longest.{longestLeg, longest, longest-accepted}
-use Rattle.fitness.specs.State.{answerText, width, settingOf, momentOf}
-use Rattle.fitness.specs.Fitness.{placesFit}
-use Rattle.fitness.specs.declared.State.{State}
+use Rattle.campaign_state.specs.State.{answerText, width, settingOf, momentOf}
+use Rattle.campaign_state.specs.Fitness.{placesFit}
+use Rattle.campaign_state.specs.declared.State.{State}
 use Rattle.campaign.specs.Calls.{answerOf, leftOf, begunOf}
 use Rattle.demands.specs.Code.{campaignOf, Called, asks, tells, callOf, turnsOf, leftAfter, promptCalls}
 use Rattle.demands.proofs.Kept.{answer-on}

@@ -7,7 +7,7 @@ use mathlib.Core.Option.{Option, none, some}
 use Prim.Native.Nat.{ℕ}
 use lib.Dec.{leb}
 use Rattle.words.specs.Told.{Told, Spot, accepted, refused, then, need, leaves}
-use Rattle.checks.specs.Calls.{sized}
+use Rattle.pattern_check.specs.Calls.{sized}
 use Rattle.promise.specs.Campaign.{Answer, refusal}
 use Rattle.demands.specs.One.{OneOf, Refuses, Keeps, RefusesAs}
 

@@ -15,23 +15,23 @@ use Rattle.listing.specs.Count.{count}
 use Rattle.listing.proofs.Numbers.{either}
 use Rattle.words.specs.Told.{Told, nowhere, accepted}
 use Rattle.words.specs.declared.Line.{Line}
-use Rattle.checks.specs.Faults.{Fault, sound, outside, repeated, ownJack, faultOf, faultTold}
-use Rattle.checks.specs.Calls.{checkAs, checkOf}
+use Rattle.pattern_check.specs.Faults.{Fault, sound, outside, repeated, ownJack, faultOf, faultTold}
+use Rattle.pattern_check.specs.Calls.{checkAs, checkOf}
 use Rattle.patterns.specs.Calls.{ranked, countOf, rankOf, unrankOf, unrankBytes, besideOf, besideBytes, stepOf}
 use Rattle.panel.specs.Calls.{onPanel, portOf, jackOf, carryOf, carryBytes}
 use Rattle.panel.proofs.Accepted.{panel-refused}
 use Rattle.panel.proofs.Refusals.{refusals}
-use Rattle.texts.specs.Parts.{newline, cut, after}
-use Rattle.lines.specs.Format.{Kind, swapping, turning, marking, ending, key, commas, lineOf, lineText}
-use Rattle.lines.specs.Calls.{roomOf, writeOf, writeBytes}
+use Rattle.text_keys.specs.Parts.{newline, cut, after}
+use Rattle.line_format.specs.Format.{Kind, swapping, turning, marking, ending, key, commas, lineOf, lineText}
+use Rattle.line_format.specs.Calls.{roomOf, writeOf, writeBytes}
 use Rattle.words.specs.Shape.{lineFits}
-use Rattle.lines.specs.Reading.{fitting, numbersIn, numbersTold, keyed, lineIn, readOf}
+use Rattle.line_format.specs.Reading.{fitting, numbersIn, numbersTold, keyed, lineIn, readOf}
 use Rattle.plans.specs.Calls.{device}
 use Rattle.promise.specs.Campaign.{Setting, refusal, Call, request, report, wordOf, isError, todo, next, offer, answer}
 use Rattle.promise.specs.Campaign as model
-use Rattle.fitness.specs.State.{settingOf, momentOf}
-use Rattle.fitness.specs.Fitness.{placesFit}
-use Rattle.fitness.specs.declared.State.{State}
+use Rattle.campaign_state.specs.State.{settingOf, momentOf}
+use Rattle.campaign_state.specs.Fitness.{placesFit}
+use Rattle.campaign_state.specs.declared.State.{State}
 use Rattle.campaign.specs.Calls as calls
 use Rattle.campaign.specs.Calls.{answerOf, leftOf, bytesOf}
 use Rattle.campaign.proofs.Moments.{refusal-leaves}

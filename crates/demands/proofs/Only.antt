@@ -1,12 +1,12 @@
 -- Nothing else meets a contract of a public call (`each-call-one`): the laws of the crates, in one place.
 -- Assumes nothing.
-use Rattle.checks.proofs.Only.{only-check}
+use Rattle.pattern_check.proofs.Only.{only-check}
 use Rattle.patterns.proofs.Only.{only-count, only-rank, only-unrank, only-beside, only-step}
 use Rattle.panel.proofs.Only.{only-port-at, only-jack-of, only-carry}
-use Rattle.decimals.proofs.Only.{only-read-number, only-read-signed, only-places, only-digits}
-use Rattle.texts.proofs.Only.{only-find, only-has-key}
-use Rattle.reading.proofs.Only.{only-read-line}
-use Rattle.writing.proofs.Only.{only-write-line}
+use Rattle.text_numbers.proofs.Only.{only-read-number, only-read-signed, only-places, only-digits}
+use Rattle.text_keys.proofs.Only.{only-find, only-has-key}
+use Rattle.line_reader.proofs.Only.{only-read-line}
+use Rattle.line_writer.proofs.Only.{only-write-line}
 use Rattle.plans.proofs.Only.{only-read-plan}
 use Rattle.campaign.proofs.Only.{only-request, only-request-bytes, only-report, only-begin}
 use Rattle.demands.specs.Only.{EachCallOne}

@@ -6,9 +6,9 @@ use mathlib.Core.List.{List, [], _∷_}
 use Prim.Native.Nat.{ℕ, zero, suc}
 use Rattle.listing.specs.Count.{count}
 use Rattle.words.specs.Told.{atLine}
-use Rattle.texts.specs.Parts.{newline, cut, after}
+use Rattle.text_keys.specs.Parts.{newline, cut, after}
 use Rattle.plans.specs.Grammar.{Limits}
-use Rattle.fields.specs.Field.{lineIn, between, Field, fieldIn}
+use Rattle.plan_lines.specs.Field.{lineIn, between, Field, fieldIn}
 use Rattle.plans.specs.Reading.{portsField, legsField, startField, runField, legIn, legsIn, planIn}
 use Rattle.demands.specs.One.{OneOf, Refuses}
 use Rattle.demands.proofs.Numbers.{from-accepted, from-refused, from-then, from-need, from-cond}

@@ -12,8 +12,8 @@ use Rattle.promise.specs.Derangements.{derangements}
 use Rattle.promise.proofs.Steps.{Does, does-so, fit-first, fit-after}
 use Rattle.plans.specs.Grammar.{Planned}
 use Rattle.plans.specs.Calls.{readPlanOf}
-use Rattle.fitness.specs.State.{settingOf, momentOf}
-use Rattle.fitness.specs.declared.State.{State}
+use Rattle.campaign_state.specs.State.{settingOf, momentOf}
+use Rattle.campaign_state.specs.declared.State.{State}
 use Rattle.campaign.specs.Calls.{answerOf, leftOf, begunOf}
 use Rattle.demands.specs.Code.{campaignOf, Called, callOf, leftAfter}
 use Rattle.demands.proofs.Begun.{begun-setting}

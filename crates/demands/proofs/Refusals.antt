@@ -15,7 +15,7 @@ use Rattle.listing.specs.Ends.{home}
 use Rattle.listing.specs.Limits.{mostPorts, mostLegs}
 use Rattle.words.specs.Told.{Spot, accepted, refused}
 use Rattle.words.specs.declared.Line.{Line}
-use Rattle.lines.proofs.Longest.{at-most-45}
+use Rattle.line_format.proofs.Longest.{at-most-45}
 use Rattle.promise.specs.Campaign.{Setting, Call, request, Answer, refusal, offer, answer, after}
 use Rattle.promise.specs.Campaign as model
 use Rattle.promise.specs.Fitness.{Fit, Why, noRoom}
@@ -24,10 +24,10 @@ use Rattle.promise.proofs.Refusals.{served, tells-refusal}
 use Rattle.plans.specs.Grammar.{Planned}
 use Rattle.plans.specs.Answers.{placed, heldOf}
 use Rattle.plans.specs.Calls.{readPlanOf}
-use Rattle.legs.specs.Rules.{planRuled}
-use Rattle.fitness.specs.State.{answerLine, textOf, width, momentOf}
-use Rattle.fitness.specs.Fitness.{placesFit}
-use Rattle.fitness.specs.declared.State.{State}
+use Rattle.plan_rules.specs.Rules.{planRuled}
+use Rattle.campaign_state.specs.State.{answerLine, textOf, width, momentOf}
+use Rattle.campaign_state.specs.Fitness.{placesFit}
+use Rattle.campaign_state.specs.declared.State.{State}
 use Rattle.campaign.specs.Calls.{answerOf, begunOf, firstState}
 use Rattle.demands.specs.Code.{campaignOf, Called, leftAfter}
 use Rattle.demands.proofs.Kept.{answer-on}

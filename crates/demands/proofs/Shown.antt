@@ -19,7 +19,7 @@ use Rattle.words.specs.Meaning.{orderOf, orderFrom}
 use Rattle.words.specs.declared.Line.{Line}
 use Rattle.words.proofs.Once.{order-there}
 use Rattle.words.proofs.Shape.{shape-shaped, shape-more}
-use Rattle.lines.specs.Campaign.{OfCampaign}
+use Rattle.line_format.specs.Campaign.{OfCampaign}
 use Rattle.words.specs.Shape.{lineFits}
 use Rattle.panel.specs.Calls as panel
 use Rattle.promise.specs.Plan.{marks}
@@ -33,7 +33,7 @@ use Rattle.promise.proofs.Steps.{Does, moves-on, hands-out, ends, closes, errs,
 use Rattle.plans.specs.Grammar.{Planned}
 use Rattle.plans.specs.Calls.{readPlanOf}
 use Rattle.plans.proofs.Longest.{marks-most}
-use Rattle.fitness.specs.State.{answerLine}
+use Rattle.campaign_state.specs.State.{answerLine}
 use Rattle.demands.specs.Code.{campaignOf}
 use Rattle.demands.specs.Robot.{MeetsAt}
 use Rattle.demands.proofs.Begun.{plan-fits}

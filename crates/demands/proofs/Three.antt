@@ -20,7 +20,7 @@ use Rattle.promise.proofs.Derangements.{lawful-on, circuit-on}
 use Rattle.plans.specs.Grammar.{Planned, Fits}
 use Rattle.plans.specs.Calls.{device, readPlanOf}
 use Rattle.plans.proofs.Plans.{each-fits}
-use Rattle.fitness.specs.State.{momentOf}
+use Rattle.campaign_state.specs.State.{momentOf}
 use Rattle.campaign.specs.Calls.{begunOf}
 use Rattle.demands.specs.Code.{campaignOf, Called, callOf, turnsOf, leftAfter}
 use Rattle.demands.proofs.Begun.{plan-fits, begun-fit, begun-setting, begun-first, begun-room}

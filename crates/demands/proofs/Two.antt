@@ -18,9 +18,9 @@ use Rattle.listing.proofs.Places.{length-listing}
 use Rattle.listing.proofs.Ranks.{at-derangement, rank-at, rank-below, at-rank, at-once}
 use Rattle.listing.proofs.Neighbours.{beside-leads, only-beside}
 use Rattle.words.specs.Told.{accepted, leaves}
-use Rattle.checks.specs.Calls.{sized, checkOf}
-use Rattle.checks.proofs.Calls.{fits}
-use Rattle.checks.proofs.Accepted.{pattern-accepted}
+use Rattle.pattern_check.specs.Calls.{sized, checkOf}
+use Rattle.pattern_check.proofs.Calls.{fits}
+use Rattle.pattern_check.proofs.Accepted.{pattern-accepted}
 use Rattle.patterns.specs.Calls.{ranked, countOf, rankOf, unrankOf, unrankBytes, besideOf, besideBytes, stepOf}
 use Rattle.patterns.proofs.Calls.{is-rank}
 use Rattle.patterns.proofs.Accepted.{rank-accepted}

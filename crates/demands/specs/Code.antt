@@ -8,8 +8,8 @@ use Rattle.promise.specs.Campaign.{Setting, Call, request, report}
 use Rattle.promise.specs.Bench.{Turn}
 use Rattle.promise.specs.Derangements.{onPorts}
 use Rattle.plans.specs.Grammar.{Planned}
-use Rattle.fitness.specs.State.{width, momentOf}
-use Rattle.fitness.specs.declared.State.{State}
+use Rattle.campaign_state.specs.State.{width, momentOf}
+use Rattle.campaign_state.specs.declared.State.{State}
 use Rattle.campaign.specs.Calls.{answerOf, leftOf}
 
 -- the campaign of a plan: on its ports, with its legs

@@ -11,14 +11,14 @@ use lib.ListN.{length}
 use Rattle.listing.specs.Limits.{mostPorts, largest64}
 use Rattle.words.specs.Told.{Told, Spot, refused}
 use Rattle.words.specs.declared.Line.{Line}
-use Rattle.checks.specs.Calls.{checkAs, checkOf}
+use Rattle.pattern_check.specs.Calls.{checkAs, checkOf}
 use Rattle.patterns.specs.Calls.{countOf, rankOf, unrankOf, unrankBytes, besideOf, besideBytes, stepOf}
 use Rattle.panel.specs.Calls.{portOf, jackOf, carryOf, carryBytes}
-use Rattle.lines.specs.Calls.{writeOf, writeBytes}
-use Rattle.lines.specs.Reading.{readOf}
+use Rattle.line_format.specs.Calls.{writeOf, writeBytes}
+use Rattle.line_format.specs.Reading.{readOf}
 use Rattle.plans.specs.Calls.{readPlanOf}
 use Rattle.promise.specs.Campaign.{Answer, refusal, Call, request, report}
-use Rattle.fitness.specs.declared.State.{State}
+use Rattle.campaign_state.specs.declared.State.{State}
 use Rattle.campaign.specs.Calls.{answerOf, leftOf, bytesOf}
 
 -- k is one of these numbers

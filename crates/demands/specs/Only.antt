@@ -6,28 +6,28 @@ use mathlib.Core.Bool.{Bool}
 use mathlib.Core.List.{List}
 use lib.IntN.{ℤ}
 use lib.ListN.{length}
+use Rattle.words.specs.Meaning.{numberedTold, outcomeTold}
 use Rattle.listing.specs.Limits.{mostPorts, mostLegs, largest64}
 use Rattle.words.specs.declared.Line.{Line}
-use Rattle.checks.specs.Calls.{checkAs}
-use Rattle.checks.specs.Answers.{checkedTold}
+use Rattle.pattern_check.specs.Calls.{checkAs}
 use Rattle.patterns.specs.Calls.{countOf, rankOf, unrankOf, unrankBytes, besideOf, besideBytes, stepOf}
-use Rattle.patterns.specs.Answers.{countedTold, rankedTold, unrankedTold, movedTold, steppedTold}
+use Rattle.patterns.specs.Answers.{movedTold}
 use Rattle.panel.specs.Calls.{portOf, jackOf, carryOf, carryBytes}
-use Rattle.panel.specs.Answers.{lookedTold, foundTold, carriedTold}
-use Rattle.decimals.specs.Decimal.{digitsOf, numberUpTo}
-use Rattle.decimals.specs.Signed.{signedUpTo}
-use Rattle.decimals.specs.Answers.{readIs, signedIs, TextOf}
-use Rattle.texts.specs.Parts.{firstOf, begins}
-use Rattle.texts.specs.Answers.{foundIs}
-use Rattle.lines.specs.Calls.{writeOf, writeBytes}
-use Rattle.lines.specs.Reading.{readOf}
-use Rattle.reading.specs.Answers.{readTold}
-use Rattle.writing.specs.Answers.{writtenTold}
+use Rattle.panel.specs.Answers.{lookedTold, foundTold}
+use Rattle.text_numbers.specs.Decimal.{digitsOf, numberUpTo}
+use Rattle.text_numbers.specs.Signed.{signedUpTo}
+use Rattle.text_numbers.specs.Answers.{readIs, signedIs, TextOf}
+use Rattle.text_keys.specs.Parts.{firstOf, begins}
+use Rattle.text_keys.specs.Answers.{foundIs}
+use Rattle.line_format.specs.Calls.{writeOf, writeBytes}
+use Rattle.line_format.specs.Reading.{readOf}
+use Rattle.line_reader.specs.Answers.{readTold}
+use Rattle.line_writer.specs.Answers.{writtenTold}
 use Rattle.plans.specs.Calls.{readPlanOf}
 use Rattle.plans.specs.Answers.{Answers}
 use Rattle.promise.specs.Campaign as model
 use Rattle.promise.specs.Campaign.{Call}
-use Rattle.fitness.specs.declared.State.{State}
+use Rattle.campaign_state.specs.declared.State.{State}
 use Rattle.campaign.specs.Calls.{bytesOf}
 use Rattle.campaign.specs.Answers.{RequestIs, ReportIs, BeginIs}
 
@@ -42,17 +42,17 @@ OneWith {A} told t left = (r s : A) (b c : List ℕ) → told r ≡ t → b ≡ 
 -- the public calls, by crate
 pub record EachCallOne : Type 0 where
   -- ---- checks
-  pub check : (pattern : Bool) (p : List ℕ) → One (λ r. checkedTold r ≡ checkAs pattern mostPorts p)
+  pub check : (pattern : Bool) (p : List ℕ) → One (λ r. outcomeTold r ≡ checkAs pattern mostPorts p)
   -- ---- patterns
-  pub count : (n : ℕ) → One (λ r. countedTold r ≡ countOf mostPorts n)
-  pub rank : (p : List ℕ) → One (λ r. rankedTold r ≡ rankOf mostPorts p)
-  pub unrank : (k : ℕ) (out : List ℕ) → OneWith unrankedTold (unrankOf mostPorts k out) (unrankBytes mostPorts k out)
+  pub count : (n : ℕ) → One (λ r. numberedTold r ≡ countOf mostPorts n)
+  pub rank : (p : List ℕ) → One (λ r. numberedTold r ≡ rankOf mostPorts p)
+  pub unrank : (k : ℕ) (out : List ℕ) → OneWith outcomeTold (unrankOf mostPorts k out) (unrankBytes mostPorts k out)
   pub beside : (back : Bool) (p : List ℕ) → OneWith movedTold (besideOf mostPorts back p) (besideBytes mostPorts back p)
-  pub step : (n k : ℕ) (z : ℤ) → One (λ r. steppedTold r ≡ stepOf mostPorts n k z)
+  pub step : (n k : ℕ) (z : ℤ) → One (λ r. numberedTold r ≡ stepOf mostPorts n k z)
   -- ---- panel
   pub portAt : (p : List ℕ) (j : ℕ) → One (λ r. lookedTold r ≡ portOf mostPorts p j)
   pub jackOfPort : (p : List ℕ) (v : ℕ) → One (λ r. foundTold r ≡ jackOf mostPorts p v)
-  pub carry : (l : Line) (p : List ℕ) → OneWith carriedTold (carryOf mostPorts l p) (carryBytes mostPorts l p)
+  pub carry : (l : Line) (p : List ℕ) → OneWith outcomeTold (carryOf mostPorts l p) (carryBytes mostPorts l p)
   -- ---- numbers and texts
   pub readNumber : (t : List ℕ) → One (λ r. readIs r ≡ numberUpTo largest64 t)
   pub readSigned : (t : List ℕ) → One (λ r. signedIs r ≡ signedUpTo largest64 t)

@@ -12,13 +12,13 @@ use Rattle.words.specs.Told.{Told, accepted, refused}
 use Rattle.words.specs.Meaning.{orderOf}
 use Rattle.words.specs.declared.Line.{Line}
 use Rattle.words.specs.declared.Line.the-variants.{Movement, Mark, End}
-use Rattle.lines.specs.Format.{lineText}
-use Rattle.lines.specs.Reading.{readOf}
+use Rattle.line_format.specs.Format.{lineText}
+use Rattle.line_format.specs.Reading.{readOf}
 use Rattle.panel.specs.Calls.{carryOf, carryBytes}
 use Rattle.promise.specs.Campaign.{request, report}
 use Rattle.promise.specs.Bench.{Act, moves, meets, inFront}
-use Rattle.fitness.specs.State.{answerLine}
-use Rattle.fitness.specs.declared.State.{State}
+use Rattle.campaign_state.specs.State.{answerLine}
+use Rattle.campaign_state.specs.declared.State.{State}
 use Rattle.campaign.specs.Calls.{answerOf, leftOf, bytesOf}
 use Rattle.demands.specs.Code.{Called, asks, tells}
 

@@ -1,36 +1,36 @@
 // The calls for C, as include/jidrofex.h has them: each hands on the call of its name, with the same contract. An archive exports the functions of its own crate
 // alone, so they stand here together.
-use campaign_calls::begin_call;
-use campaign_calls::orders_call;
-use campaign_calls::report_call;
-use campaign_calls::request_call;
-use line_calls::read_line_call;
-use line_calls::write_line_call;
-use panel_calls::carry_call;
-use panel_calls::jack_of_call;
-use panel_calls::port_at_call;
-use pattern_calls::check_call;
-use pattern_calls::check_panel_call;
-use pattern_calls::count_call;
-use pattern_calls::next_call;
-use pattern_calls::previous_call;
-use pattern_calls::rank_call;
-use pattern_calls::step_call;
-use pattern_calls::unrank_call;
+use face_campaign::begin_call;
+use face_campaign::orders_call;
+use face_campaign::report_call;
+use face_campaign::request_call;
+use face_lines::read_line_call;
+use face_lines::write_line_call;
+use face_panel::carry_call;
+use face_panel::jack_of_call;
+use face_panel::port_at_call;
+use face_patterns::check_call;
+use face_patterns::check_panel_call;
+use face_patterns::count_call;
+use face_patterns::next_call;
+use face_patterns::previous_call;
+use face_patterns::rank_call;
+use face_patterns::step_call;
+use face_patterns::unrank_call;
 ghost use mathlib.Core.Path.{_≡_};
 ghost use mathlib.Core.Bool.{false, true};
 ghost use Rattle.listing.specs.Limits.{largest64, mostPorts};
-ghost use Rattle.checks.specs.Calls.{checkAs};
+ghost use Rattle.pattern_check.specs.Calls.{checkAs};
 ghost use Rattle.patterns.specs.Calls.{besideBytes, besideOf, countOf, rankOf, stepOf, unrankBytes, unrankOf};
-ghost use Rattle.crossing.specs.Answers.{numberTold, wordsTold};
-ghost use Rattle.crossing.specs.Lines.{lineIn, moveWords};
-ghost use Rattle.facing.specs.Values.{bytesAndEnd, lineAndPlace, nothing, oneNumber, orderAndBytes};
+ghost use Rattle.face_values.specs.Answers.{numberTold, wordsTold};
+ghost use Rattle.face_values.specs.Lines.{lineIn, moveWords};
+ghost use Rattle.face_laws.specs.Values.{bytesAndEnd, lineAndPlace, nothing, oneNumber, orderAndBytes};
 ghost use Rattle.panel.specs.Calls.{carryBytes, carryOf, jackOf, portOf};
-ghost use Rattle.lines.specs.Calls.{writeBytes, writeOf};
-ghost use Rattle.lines.specs.Reading.{readOf};
+ghost use Rattle.line_format.specs.Calls.{writeBytes, writeOf};
+ghost use Rattle.line_format.specs.Reading.{readOf};
 ghost use lib.ListN.{length};
 ghost use Rattle.promise.specs.Campaign.{report, request};
-ghost use Rattle.facing.specs.Calls.{beginTold, beginWords, calledTold, calledWords, ordersBytes, ordersTold, ordersWords, requestBytes};
+ghost use Rattle.face_laws.specs.Calls.{beginTold, beginWords, calledTold, calledWords, ordersBytes, ordersTold, ordersWords, requestBytes};
 
 // ---- patterns
 

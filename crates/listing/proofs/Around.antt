@@ -4,7 +4,7 @@
 use mathlib.Core.Path.{_≡_, refl, sym, ap, _∙_}
 use mathlib.Core.Logic.{_⊎_, inl, inr}
 use Prim.Native.Nat.{ℕ, zero, suc, _+_, _*_, _-_, _/_, _%_, _≤_, _<_}
-use native.Mathlib.Nat.{mod-lt, mod-eq-of-lt, add-mod-right, mod-eq-sub-mod, div-add-mod', add-mod-mod}
+use native.Mathlib.Nat.{mod-lt, mod-eq-of-lt, add-mod-right, mod-eq-sub-mod, div-add-mod', add-mod-mod, mod-self}
 use native.Mathlib.Omega.{arith}
 use lib.IntN.{ℤ, pos, negsuc, _+ℤ_, +ℤ-assoc, +ℤ-comm, +ℤ-idr}
 use borrow.Author.Tests.{lt-ltb, le-ltb}
@@ -103,6 +103,21 @@ pub around-behind : (c r k : ℕ) → 0 < c → around c r (negsuc k) ≡ (r + f
 unfolding around modulo
 around-behind c r k h =
     ap (λ (y : ℤ). modulo y c) (+ℤ-comm (pos r) (negsuc k)) ∙ sym (modulo-plus c h (negsuc k) (pos r)) ∙ ap (λ (x : ℕ). x % c) (omega arith)
+
+-- the same by the steps themselves: they are the rest of a round ahead
+pub around-back : (c r k : ℕ) → 0 < c → around c r (negsuc k) ≡ (r + (c - suc k % c)) % c
+around-back c r k h =
+    let one : 1 + k ≡ suc k = omega arith in
+    let more : suc k % c ≡ (1 + k % c) % c = ap (λ (x : ℕ). x % c) (sym one) ∙ sym (add-mod-mod 1 k c) in
+    around-behind c r k h
+    ∙ either (below? (1 + k % c) c)
+    (λ b. let e : (1 + k % c) % c ≡ 1 + k % c = mod-eq-of-lt b in ap (λ (x : ℕ). (r + x) % c) (omega arith))
+    (λ b.
+    let whole : 1 + k % c ≡ c = omega (arith, mod-lt k h) in
+    let none : suc k % c ≡ 0 = more ∙ ap (λ (x : ℕ). x % c) whole ∙ mod-self c in
+    let here : r + fromEnd c (k % c) ≡ r = omega arith in
+    let round : r + (c - suc k % c) ≡ r + c = omega arith in
+    ap (λ (x : ℕ). x % c) here ∙ sym (ap (λ (x : ℕ). x % c) round ∙ add-mod-right r c))
 
 -- one step on is the next rank
 pub around-next : (n r : ℕ) → r < count n → around (count n) r (pos 1) ≡ nextRank n r

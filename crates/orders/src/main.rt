@@ -1,10 +1,10 @@
 // The order printer: judges the first 1,024 bytes of standard input as a plan, takes every mark as run and prints every order; for a refusal only its number
 // and its place. Where something cannot be read or written it stops, and says so in one line on standard error.
 use campaign::Campaign;
-use plans::Judged;
+use line_refusal::refusal_text;
 use printing::Filled;
 use printing::fill;
-use refusals::refusal_text;
+use words::Outcome;
 use words::Refusal;
 ghost use mathlib.Core.Path.{_≡_};
 ghost use mathlib.Core.Bool.{true};
@@ -88,8 +88,8 @@ fn print_plan(text: &[u8]) {
     let campaign = begun.campaign;
     let judged = begun.judged;
     match judged {
-        Judged::Accepted => print_all(campaign),
-        Judged::Refused(f) => print_refusal(f),
+        Outcome::Accepted => print_all(campaign),
+        Outcome::Refused(f) => print_refusal(f),
     }
 }
 

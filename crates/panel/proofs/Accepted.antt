@@ -9,7 +9,7 @@ use lib.ListN.{length, getD}
 use Rattle.listing.specs.Pattern.{entry}
 use Rattle.words.specs.Told.{Spot, nowhere, accepted, refused}
 use Rattle.words.specs.declared.Line.{Line}
-use Rattle.checks.specs.Calls.{checkAs}
+use Rattle.pattern_check.specs.Calls.{checkAs}
 use Rattle.panel.specs.Calls.{onPanel, after, carryOf, carryBytes}
 use Rattle.words.specs.Shape.{lineFits}
 

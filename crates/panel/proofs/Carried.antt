@@ -17,7 +17,7 @@ use Rattle.words.specs.declared.Jack.{Jack}
 use Rattle.words.specs.declared.Order.the-variants.{Swap, Turn}
 use Rattle.words.specs.declared.Line.{Line}
 use Rattle.words.specs.declared.Line.the-variants.{Movement, Mark, End}
-use Rattle.checks.proofs.Accepted.{Panel}
+use Rattle.pattern_check.proofs.Accepted.{Panel}
 use Rattle.panel.specs.Calls.{after, carryOf, carryBytes}
 use Rattle.words.specs.Shape.{lineFits}
 use Rattle.panel.proofs.Joined.{told-fits}

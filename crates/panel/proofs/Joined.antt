@@ -16,9 +16,9 @@ use Rattle.listing.proofs.Onto.{stands}
 use Rattle.words.specs.Told.{nowhere, Told, accepted, refused, then}
 use Rattle.words.specs.Shape.{oneOf}
 use Rattle.words.proofs.Shape.{one-of, among-one}
-use Rattle.checks.specs.Faults.{seek}
-use Rattle.checks.specs.Calls.{checkAs}
-use Rattle.checks.proofs.Accepted.{Panel, accepted-panel, panel-accepted}
+use Rattle.pattern_check.specs.Faults.{seek}
+use Rattle.pattern_check.specs.Calls.{checkAs}
+use Rattle.pattern_check.proofs.Accepted.{Panel, accepted-panel, panel-accepted}
 use Rattle.panel.specs.Calls.{onPanel, portOf, jackOf}
 use Rattle.panel.proofs.Accepted.{fitting}
 

@@ -1,21 +1,21 @@
 -- Nothing else meets a contract of the panel: two answers that tell the same are the same, and the bytes that a call leaves are one.
 -- Assumes nothing.
-use mathlib.Core.Path.{_≡_, refl, sym, ap, _∙_}
+use mathlib.Core.Path.{_≡_, sym, ap, _∙_}
 use mathlib.Core.List.{List}
 use Prim.Native.Nat.{ℕ}
+use Rattle.words.specs.Meaning.{outcomeTold}
 use Rattle.listing.specs.Limits.{mostPorts}
 use Rattle.words.specs.declared.Jack.{Jack}
 use Rattle.words.specs.declared.Port.{Port}
 use Rattle.words.specs.declared.Line.{Line}
-use Rattle.words.proofs.Once.{refusal-once}
+use Rattle.words.specs.declared.Outcome.{Outcome}
+use Rattle.words.proofs.Once.{refusal-once, outcome-once}
 use Rattle.panel.specs.Calls.{portOf, jackOf, carryOf, carryBytes}
-use Rattle.panel.specs.Answers.{lookedTold, foundTold, carriedTold}
+use Rattle.panel.specs.Answers.{lookedTold, foundTold}
 use Rattle.panel.specs.declared.answers.Looked.{Looked}
 use Rattle.panel.specs.declared.answers.Looked.the-variants.{Joined, Refused as Looked-Refused}
 use Rattle.panel.specs.declared.answers.Found.{Found}
 use Rattle.panel.specs.declared.answers.Found.the-variants.{Held, Refused as Found-Refused}
-use Rattle.panel.specs.declared.answers.Carried.{Carried}
-use Rattle.panel.specs.declared.answers.Carried.the-variants.{Done, Refused as Carried-Refused}
 
 -- ---- two answers that tell the same
 
@@ -37,12 +37,6 @@ found-once (Held j) (Found-Refused g) e = cc
 found-once (Found-Refused f) (Held k) e = cc
 found-once (Found-Refused f) (Found-Refused g) e = ap Found-Refused (refusal-once f g e)
 
-carried-once : (r s : Carried) → carriedTold r ≡ carriedTold s → r ≡ s
-carried-once Done Done e = refl
-carried-once Done (Carried-Refused g) e = cc
-carried-once (Carried-Refused f) Done e = cc
-carried-once (Carried-Refused f) (Carried-Refused g) e = ap Carried-Refused (refusal-once f g e)
-
 -- ---- one answer, and one list of bytes, to each call
 
 pub only-port-at : (p : List ℕ) (j : ℕ) (r s : Looked) → lookedTold r ≡ portOf mostPorts p j → lookedTold s ≡ portOf mostPorts p j → r ≡ s
@@ -51,7 +45,7 @@ only-port-at p j r s e f = looked-once r s (e ∙ sym f)
 pub only-jack-of : (p : List ℕ) (v : ℕ) (r s : Found) → foundTold r ≡ jackOf mostPorts p v → foundTold s ≡ jackOf mostPorts p v → r ≡ s
 only-jack-of p v r s e f = found-once r s (e ∙ sym f)
 
-pub only-carry : (l : Line) (p : List ℕ) (r s : Carried) (b c : List ℕ)
-    → carriedTold r ≡ carryOf mostPorts l p → b ≡ carryBytes mostPorts l p
-    → carriedTold s ≡ carryOf mostPorts l p → c ≡ carryBytes mostPorts l p → (r ≡ s) × (b ≡ c)
-only-carry l p r s b c e d f g = (carried-once r s (e ∙ sym f), d ∙ sym g)
+pub only-carry : (l : Line) (p : List ℕ) (r s : Outcome) (b c : List ℕ)
+    → outcomeTold r ≡ carryOf mostPorts l p → b ≡ carryBytes mostPorts l p
+    → outcomeTold s ≡ carryOf mostPorts l p → c ≡ carryBytes mostPorts l p → (r ≡ s) × (b ≡ c)
+only-carry l p r s b c e d f g = (outcome-once r s (e ∙ sym f), d ∙ sym g)

@@ -10,9 +10,9 @@ use lib.ListN.{length}
 use Rattle.listing.specs.Pattern.{entry}
 use Rattle.listing.proofs.Numbers.{either}
 use Rattle.words.specs.Told.{Spot, nowhere, Told, accepted, refused, then}
-use Rattle.checks.specs.Faults.{Fault, sound, outside, repeated, ownJack, earlier, faultAt, firstOf, faultFrom, faultOf, faultTold}
-use Rattle.checks.specs.Calls.{sized, checkAs}
-use Rattle.checks.proofs.Accepted.{Panel, accepted-panel}
+use Rattle.pattern_check.specs.Faults.{Fault, sound, outside, repeated, ownJack, earlier, faultAt, firstOf, faultFrom, faultOf, faultTold}
+use Rattle.pattern_check.specs.Calls.{sized, checkAs}
+use Rattle.pattern_check.proofs.Accepted.{Panel, accepted-panel}
 use Rattle.panel.specs.Calls.{onPanel}
 
 -- the number of a refusal of the panel

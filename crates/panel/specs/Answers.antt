@@ -7,8 +7,6 @@ use Rattle.panel.specs.declared.answers.Looked.{Looked}
 use Rattle.panel.specs.declared.answers.Looked.the-variants.{Joined, Refused as Looked-Refused}
 use Rattle.panel.specs.declared.answers.Found.{Found}
 use Rattle.panel.specs.declared.answers.Found.the-variants.{Held, Refused as Found-Refused}
-use Rattle.panel.specs.declared.answers.Carried.{Carried}
-use Rattle.panel.specs.declared.answers.Carried.the-variants.{Done, Refused as Carried-Refused}
 
 abbrev pub lookedTold : Looked → Told ℕ
 lookedTold (Joined v) = accepted (v .0)
@@ -17,7 +15,3 @@ lookedTold (Looked-Refused f) = refusalOf f
 abbrev pub foundTold : Found → Told ℕ
 foundTold (Held j) = accepted (j .0)
 foundTold (Found-Refused f) = refusalOf f
-
-abbrev pub carriedTold : Carried → Told (Unit {0})
-carriedTold Done = accepted tt
-carriedTold (Carried-Refused f) = refusalOf f

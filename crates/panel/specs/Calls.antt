@@ -12,8 +12,8 @@ use Rattle.words.specs.Meaning.{orderOf}
 use Rattle.words.specs.Shape.{oneOf, lineFits}
 use Rattle.words.specs.declared.Line.{Line}
 use Rattle.words.specs.declared.Line.the-variants.{Movement, Mark, End}
-use Rattle.checks.specs.Faults.{seek}
-use Rattle.checks.specs.Calls.{checkAs}
+use Rattle.pattern_check.specs.Faults.{seek}
+use Rattle.pattern_check.specs.Calls.{checkAs}
 
 -- the refusals of a panel, and 17 after them unless what is asked fits it
 unfoldable pub onPanel : {A : Type 0} → ℕ → List ℕ → Bool → A → Told A

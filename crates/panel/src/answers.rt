@@ -14,9 +14,3 @@ pub enum Found {
     Held(Jack),
     Refused(Refusal),
 }
-
-// Whether a line was carried out.
-pub enum Carried {
-    Done,
-    Refused(Refusal),
-}

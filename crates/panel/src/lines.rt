@@ -1,35 +1,34 @@
 // The lines of a campaign carried out on a lent panel.
-use crate::answers::Carried;
-use carrying::carry_order;
-use checks::answers::Checked;
-use checks::checking::check_panel;
-use shapes::in_shape;
+use pattern_carry::carry_order;
+use pattern_check::checking::check_panel;
 use words::Line;
+use words::Outcome;
 use words::Reason;
-use words::nowhere;
+use words::refusals::nowhere;
+use words::shapes::in_shape;
 ghost use mathlib.Core.Path.{_≡_};
+ghost use Rattle.words.specs.Meaning.{outcomeTold};
 ghost use Rattle.listing.specs.Limits.{mostPorts};
 ghost use Rattle.panel.specs.Calls.{carryOf, carryBytes};
-ghost use Rattle.panel.specs.Answers.{carriedTold};
 
 // A line on the panel: an order is carried out, a mark and the end leave the panel as it is.
-pub fn carry(panel: &mut [u8], line: Line) -> Carried
-    ensures answer { λ r. ⌜ carriedTold r ≡ carryOf mostPorts line (now (panel .entry)) ⌝ }
+pub fn carry(panel: &mut [u8], line: Line) -> Outcome
+    ensures answer { λ r. ⌜ outcomeTold r ≡ carryOf mostPorts line (now (panel .entry)) ⌝ }
     ensures bytes { λ _. ⌜ now (panel .exit) ≡ carryBytes mostPorts line (now (panel .entry)) ⌝ }
 {
     match check_panel(panel) {
-        Checked::Refused(f) => Carried::Refused(f),
-        Checked::Sound => match line {
+        Outcome::Refused(f) => Outcome::Refused(f),
+        Outcome::Accepted => match line {
             Line::Movement(o) => {
                 let n = panel.len() as u8;
                 if in_shape(n, o) {
                     carry_order(o, panel);
-                    return Carried::Done;
+                    return Outcome::Accepted;
                 }
-                Carried::Refused(nowhere(Reason::Shape))
+                Outcome::Refused(nowhere(Reason::Shape))
             }
-            Line::Mark(_, _) => Carried::Done,
-            Line::End(_) => Carried::Done,
+            Line::Mark(_, _) => Outcome::Accepted,
+            Line::End(_) => Outcome::Accepted,
         },
     }
 }

@@ -1,18 +1,18 @@
 // Look-ups on a lent panel: the port at a jack, and the jack that holds a port.
 use crate::answers::Found;
 use crate::answers::Looked;
-use checks::answers::Checked;
-use checks::checking::check_panel;
-use shapes::one_of;
+use pattern_check::checking::check_panel;
 use words::Jack;
+use words::Outcome;
 use words::Port;
 use words::Reason;
-use words::nowhere;
+use words::refusals::nowhere;
+use words::shapes::one_of;
 ghost use mathlib.Core.Path.{_≡_};
 ghost use Prim.Native.Nat.{_≤_};
 ghost use lib.ListN.{length};
 ghost use Rattle.listing.specs.Limits.{mostPorts};
-ghost use Rattle.checks.specs.Faults.{seek};
+ghost use Rattle.pattern_check.specs.Faults.{seek};
 ghost use Rattle.panel.specs.Calls.{portOf, jackOf};
 ghost use Rattle.panel.specs.Answers.{lookedTold, foundTold};
 
@@ -36,8 +36,8 @@ pub fn port_at(panel: &[u8], jack: Jack) -> Looked
     ensures { λ r. ⌜ lookedTold r ≡ portOf mostPorts (now (panel .entry)) (jack .0) ⌝ }
 {
     match check_panel(panel) {
-        Checked::Refused(f) => Looked::Refused(f),
-        Checked::Sound => {
+        Outcome::Refused(f) => Looked::Refused(f),
+        Outcome::Accepted => {
             if one_of(panel.len() as u8, jack.0) {
                 return Looked::Joined(Port(panel[(jack.0 - 1) as usize]));
             }
@@ -51,8 +51,8 @@ pub fn jack_of(panel: &[u8], port: Port) -> Found
     ensures { λ r. ⌜ foundTold r ≡ jackOf mostPorts (now (panel .entry)) (port .0) ⌝ }
 {
     match check_panel(panel) {
-        Checked::Refused(f) => Found::Refused(f),
-        Checked::Sound => {
+        Outcome::Refused(f) => Found::Refused(f),
+        Outcome::Accepted => {
             if one_of(panel.len() as u8, port.0) {
                 return Found::Held(holder(panel, port));
             }

@@ -18,9 +18,9 @@ use Rattle.listing.proofs.Numbers.{from-two}
 use Rattle.listing.proofs.Ranks.{rank-below, at-rank}
 use Rattle.listing.proofs.Neighbours.{beside-leads}
 use Rattle.words.specs.Told.{Spot, nowhere, Told, accepted, refused, then}
-use Rattle.checks.specs.Calls.{checkOf}
+use Rattle.pattern_check.specs.Calls.{checkOf}
 use Rattle.patterns.specs.Calls.{rankOf, unrankOf, unrankBytes, besideOf, besideBytes}
-use Rattle.checks.proofs.Accepted.{Pattern, accepted-pattern}
+use Rattle.pattern_check.proofs.Accepted.{Pattern, accepted-pattern}
 
 -- ---- the rank
 

@@ -1,4 +1,4 @@
 pub mod Calls
 pub mod Only
-pub mod Signs
 pub mod Accepted
+pub mod Around

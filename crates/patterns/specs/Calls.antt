@@ -14,7 +14,7 @@ use Rattle.listing.specs.Orders.{Move}
 use Rattle.listing.specs.Neighbours.{rankBeside, moveBeside}
 use Rattle.listing.specs.Around.{around}
 use Rattle.words.specs.Told.{Told, accepted, refused, nowhere, then, leaves}
-use Rattle.checks.specs.Calls.{sized, checkOf}
+use Rattle.pattern_check.specs.Calls.{sized, checkOf}
 
 -- refusal 6 unless the rank is below the count
 unfoldable pub ranked : {A : Type 0} → ℕ → ℕ → Told A → Told A

@@ -1,11 +1,11 @@
 // Next and previous round the circuit: the lent pattern becomes the one beside it, and the answer is the move that was made.
 use crate::answers::Moved;
-use carrying::carry_move;
-use checks::answers::Checked;
-use checks::checking::check;
-use levels::panels::load;
-use moving::neighbours::move_beside;
-use ranks::ranking::place;
+use pattern_carry::carry_move;
+use pattern_check::checking::check;
+use pattern_moves::neighbours::move_beside;
+use pattern_ranks::ranking::place;
+use pattern_steps::panels::load;
+use words::Outcome;
 ghost use mathlib.Core.Path.{_≡_};
 ghost use mathlib.Core.Bool.{true, false};
 ghost use Rattle.listing.specs.Limits.{mostPorts};
@@ -18,8 +18,8 @@ fn go(p: &mut [u8], back: bool) -> Moved
     ensures bytes { λ _. ⌜ now (p .exit) ≡ besideBytes mostPorts back (now (p .entry)) ⌝ }
 {
     match check(p) {
-        Checked::Refused(f) => Moved::Refused(f),
-        Checked::Sound => {
+        Outcome::Refused(f) => Moved::Refused(f),
+        Outcome::Accepted => {
             let n = p.len() as u8;
             let m = move_beside(n, back, place(load(p), n));
             carry_move(m, p);

@@ -11,11 +11,11 @@ use Rattle.listing.specs.Limits.{mostPorts}
 use Rattle.listing.proofs.Limits.{count-20}
 use Rattle.promise.specs.Plan.{Leg}
 use Rattle.words.specs.Told.{Told, accepted, refused, atLine}
-use Rattle.texts.specs.Parts.{newline, firstOf, begins}
-use Rattle.decimals.specs.Decimal.{glyph, spell, digitsOf, digitIn, onward, numberIn, upTo}
-use Rattle.decimals.specs.Signed.{minus, signedUpTo}
-use Rattle.decimals.proofs.Cases.{allButOne}
-use Rattle.fields.specs.Field.{fieldText, lineIn, between, fieldIn}
+use Rattle.text_keys.specs.Parts.{newline, firstOf, begins}
+use Rattle.text_numbers.specs.Decimal.{glyph, spell, digitsOf, digitIn, onward, numberIn, upTo}
+use Rattle.text_numbers.specs.Signed.{minus, signedUpTo}
+use Rattle.text_numbers.proofs.Cases.{allButOne}
+use Rattle.plan_lines.specs.Field.{fieldText, lineIn, between, fieldIn}
 use Rattle.plans.specs.Grammar.{Planned, portsKey, legsKey, startKey, runKey, legsText, planText}
 use Rattle.plans.specs.Reading.{legIn, legsIn, planIn}
 use Rattle.plans.specs.Calls.{device, readPlanOf}

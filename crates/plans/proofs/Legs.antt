@@ -10,12 +10,12 @@ use native.Mathlib.Omega.{arith}
 use lib.ListN.{length}
 use Rattle.promise.specs.Plan.{Leg}
 use Rattle.words.specs.Told.{Spot, accepted, refused}
-use Rattle.texts.specs.Parts.{firstOf}
-use Rattle.decimals.specs.Decimal.{digitsOf}
-use Rattle.decimals.specs.Signed.{Signed, ahead, behind, magnitude, Proper, signedDigits}
-use Rattle.fields.specs.Field.{fieldText, Got, fieldIn}
+use Rattle.text_keys.specs.Parts.{firstOf}
+use Rattle.text_numbers.specs.Decimal.{digitsOf}
+use Rattle.text_numbers.specs.Signed.{Signed, ahead, behind, magnitude, Proper, signedDigits}
+use Rattle.plan_lines.specs.Field.{fieldText, Got, fieldIn}
 use Rattle.words.proofs.Told.{then-accepted, accepted-once}
-use Rattle.fields.proofs.Numbers.{number-text, number-accepted, signed-text, signed-accepted}
+use Rattle.plan_lines.proofs.Numbers.{number-text, number-accepted, signed-text, signed-accepted}
 use Rattle.plans.specs.Grammar.{startKey, runKey, runOf, legText, legsText, LegFits, EachFits}
 use Rattle.plans.specs.Reading.{startField, runField, legBy, legIn, preceded, legsIn}
 

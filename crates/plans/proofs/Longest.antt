@@ -14,10 +14,10 @@ use Rattle.listing.specs.Limits.{mostPorts, mostLegs}
 use Rattle.listing.proofs.Limits.{count-20, most-marks}
 use Rattle.promise.specs.Plan.{Leg, marks}
 use Rattle.words.specs.Told.{accepted}
-use Rattle.decimals.specs.Decimal.{digitsOf}
-use Rattle.decimals.specs.Signed.{ahead, behind, signedDigits}
-use Rattle.decimals.proofs.Lengths.{digits-at-most, digits-above, digits-no-fewer}
-use Rattle.fields.specs.Field.{fieldText}
+use Rattle.text_numbers.specs.Decimal.{digitsOf}
+use Rattle.text_numbers.specs.Signed.{ahead, behind, signedDigits}
+use Rattle.text_numbers.proofs.Lengths.{digits-at-most, digits-above, digits-no-fewer}
+use Rattle.plan_lines.specs.Field.{fieldText}
 use Rattle.plans.specs.Grammar.{Planned, Limits, Wide, portsKey, legsKey, startKey, runKey, runOf, legText, legsText, planText, LegFits, EachFits, Fits}
 use Rattle.plans.specs.Calls.{device, readPlanOf}
 use Rattle.plans.proofs.Plans.{count-within, fits-accepted, accepted-fits}

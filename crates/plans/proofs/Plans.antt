@@ -11,11 +11,11 @@ use Rattle.listing.specs.Count.{count}
 use Rattle.listing.proofs.Counts.{count-grows}
 use Rattle.promise.specs.Plan.{Leg, legAt}
 use Rattle.words.specs.Told.{Spot, accepted, refused}
-use Rattle.texts.specs.Parts.{firstOf}
-use Rattle.decimals.specs.Decimal.{digitsOf}
-use Rattle.fields.specs.Field.{fieldText, Got, fieldIn}
+use Rattle.text_keys.specs.Parts.{firstOf}
+use Rattle.text_numbers.specs.Decimal.{digitsOf}
+use Rattle.plan_lines.specs.Field.{fieldText, Got, fieldIn}
 use Rattle.words.proofs.Told.{then-accepted, accepted-once}
-use Rattle.fields.proofs.Numbers.{number-text, number-accepted}
+use Rattle.plan_lines.proofs.Numbers.{number-text, number-accepted}
 use Rattle.plans.specs.Grammar.{Planned, Limits, Wide, portsKey, legsKey, legsText, planText, LegFits, EachFits, Fits}
 use Rattle.plans.specs.Reading.{portsField, legsField, legsIn, withPorts, planIn}
 use Rattle.plans.proofs.Legs.{legs-text, legs-accepted}

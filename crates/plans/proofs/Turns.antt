@@ -11,10 +11,10 @@ use lib.ListN.{length, set, replicate, length-append, length-map}
 use lib.Seq.{set-at, append-snoc}
 use Rattle.promise.specs.Plan.{Leg}
 use Rattle.words.specs.Told.{Told, Spot, accepted, refused, atLine}
-use Rattle.fields.specs.Field.{Got}
+use Rattle.plan_lines.specs.Field.{Got}
 use Rattle.plans.specs.Reading.{legIn, ended, preceded, legsIn, withPorts}
 use Rattle.plans.specs.Answers.{signedRun, padded, placed, Answers}
-use Rattle.plans.specs.declared.Judged.the-variants.{Accepted}
+use Rattle.words.specs.declared.Outcome.the-variants.{Accepted}
 use Rattle.plans.specs.declared.ReadPlan.{ReadPlan}
 use Rattle.plans.proofs.Legs.{legs-on, legs-refused}
 

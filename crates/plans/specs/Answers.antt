@@ -8,11 +8,10 @@ use lib.IntN.{ℤ, pos, negsuc, negℤ}
 use lib.ListN.{length, replicate}
 use Rattle.promise.specs.Plan.{Leg}
 use Rattle.words.specs.Told.{Told, accepted, refused, then}
-use Rattle.words.specs.Meaning.{refusalOf}
+use Rattle.words.specs.Meaning.{outcomeTold}
+use Rattle.words.specs.Signs.{bySign}
 use Rattle.plans.specs.Grammar.{Planned}
 use Rattle.plans.specs.declared.Plan.{Plan}
-use Rattle.plans.specs.declared.Judged.{Judged}
-use Rattle.plans.specs.declared.Judged.the-variants.{Accepted, Refused}
 use Rattle.plans.specs.declared.ReadPlan.{ReadPlan}
 
 -- ---- a plan in places
@@ -44,8 +43,7 @@ heldOf most (refused k s) = placed most (record { ports = 0; legs = [] })
 
 -- a leg by a start and a run with its sign
 abbrev pub legHeld : ℕ → ℤ → Leg
-legHeld start (pos n) = record { start = start; back = false; run = n }
-legHeld start (negsuc n) = record { start = start; back = true; run = suc n }
+legHeld start z = record { start = start; back = bySign z .back; run = bySign z .magnitude }
 
 -- the first k legs
 unfoldable pub legsHeld : ℕ → List ℕ → List ℤ → List Leg
@@ -59,12 +57,7 @@ plannedOf p = record { ports = p .ports; legs = legsHeld (p .legs) (p .starts) (
 
 -- ---- the answer
 
--- accepted, or the number of the refusal and its place
-abbrev pub judgedTold : Judged → Told (Unit {0})
-judgedTold Accepted = accepted tt
-judgedTold (Refused f) = refusalOf f
-
 -- r is the answer to a text that is told to be a plan, or refused: it is judged so, and the places hold that plan, or zeros
 pub record Answers (most : ℕ) (told : Told Planned) (r : ReadPlan) : Type 0 where
-  pub judged : judgedTold (r .judged) ≡ then told (λ p. accepted tt)
+  pub judged : outcomeTold (r .judged) ≡ then told (λ p. accepted tt)
   pub plan : r .plan ≡ heldOf most told

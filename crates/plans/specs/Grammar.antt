@@ -8,9 +8,9 @@ use mathlib.Core.List.{List, [], _∷_, _++_}
 use lib.ListN.{length}
 use Rattle.listing.specs.Count.{count}
 use Rattle.promise.specs.Plan.{Leg}
-use Rattle.decimals.specs.Decimal.{digitsOf}
-use Rattle.decimals.specs.Signed.{Signed, ahead, behind, signedDigits}
-use Rattle.fields.specs.Field.{fieldText}
+use Rattle.text_numbers.specs.Decimal.{digitsOf}
+use Rattle.text_numbers.specs.Signed.{Signed, ahead, behind, signedDigits}
+use Rattle.plan_lines.specs.Field.{fieldText}
 
 -- a plan: its ports and its legs
 pub record Planned : Type 0 where

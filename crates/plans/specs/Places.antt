@@ -6,7 +6,7 @@ use lib.ListN.{length, drop}
 use Rattle.promise.specs.Plan.{Leg}
 use Rattle.words.specs.Told.{Told, accepted}
 use Rattle.words.specs.Meaning.{refusalOf}
-use Rattle.fields.specs.Field.{Got}
+use Rattle.plan_lines.specs.Field.{Got}
 use Rattle.plans.specs.declared.reading.LegRead.{LegRead}
 use Rattle.plans.specs.declared.reading.LegRead.the-variants.{Leg as Leg-Read, Refused as Leg-Refused}
 

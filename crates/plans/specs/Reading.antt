@@ -7,8 +7,8 @@ use mathlib.Core.List.{List, [], _∷_, _++_}
 use Rattle.listing.specs.Count.{count}
 use Rattle.promise.specs.Plan.{Leg}
 use Rattle.words.specs.Told.{Told, accepted, refused, atLine, then}
-use Rattle.decimals.specs.Signed.{Signed, ahead, behind}
-use Rattle.fields.specs.Field.{Field, Got, fieldIn, unsigned, signed}
+use Rattle.text_numbers.specs.Signed.{Signed, ahead, behind}
+use Rattle.plan_lines.specs.Field.{Field, Got, fieldIn, unsigned, signed}
 use Rattle.plans.specs.Grammar.{Planned, Limits, portsKey, legsKey, startKey, runKey}
 
 -- ---- the four kinds of line

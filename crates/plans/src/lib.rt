@@ -1,5 +1,5 @@
 // Plans read from text: the plan, or the refusal with its line. What a text means stands in specs/.
-use words::Refusal;
+use words::Outcome;
 
 pub mod reading;
 
@@ -11,14 +11,8 @@ pub struct Plan {
     pub runs: [i64; 16],
 }
 
-// Whether a text was accepted as a plan.
-pub enum Judged {
-    Accepted,
-    Refused(Refusal),
-}
-
 // A text judged, and the plan that it is: all zeros if it was refused.
 pub struct ReadPlan {
-    pub judged: Judged,
+    pub judged: Outcome,
     pub plan: Plan,
 }

@@ -1,16 +1,16 @@
 // Plans read line by line: ports, legs, and for each leg start and run.
-use crate::Judged;
 use crate::Plan;
 use crate::ReadPlan;
-use fields::Numbered;
-use fields::Run;
-use fields::Values;
-use fields::at_line;
-use fields::number_at;
-use fields::run_at;
-use levels::counts::count_of;
+use pattern_steps::counts::count_of;
+use plan_lines::Numbered;
+use plan_lines::Run;
+use plan_lines::Values;
+use plan_lines::number_at;
+use plan_lines::run_at;
+use words::Outcome;
 use words::Reason;
 use words::Refusal;
+use words::refusals::at_line;
 ghost use mathlib.Core.Path.{_≡_};
 ghost use Prim.Native.Nat.{_≤_, _<_};
 ghost use lib.ListN.{length, drop};
@@ -33,7 +33,7 @@ fn refused(f: Refusal) -> ReadPlan
     ensures { λ r. ⌜ Answers mostLegs (refusalOf f) r ⌝ }
 {
     ReadPlan {
-        judged: Judged::Refused(f),
+        judged: Outcome::Refused(f),
         plan: Plan {
             ports: 0,
             legs: 0,
@@ -108,7 +108,7 @@ fn read_legs(text: &[u8], from: usize, ports: u8, legs: u8) -> ReadPlan
         return refused(at_line(Reason::Ended, 3 + 2 * legs));
     }
     ReadPlan {
-        judged: Judged::Accepted,
+        judged: Outcome::Accepted,
         plan: Plan {
             ports: ports,
             legs: legs,

@@ -11,11 +11,11 @@ use Rattle.listing.proofs.Numbers.{either, test}
 use Rattle.words.specs.Told.{Told, Spot, accepted, refused}
 use Rattle.words.specs.Meaning.{orderFrom}
 use Rattle.words.specs.declared.Line.the-variants.{Movement, Mark}
-use Rattle.lines.proofs.Inverse.{text-length}
+use Rattle.line_format.proofs.Inverse.{text-length}
 use Rattle.promise.specs.Campaign as model
 use Rattle.promise.specs.Campaign.{request, movement, mark, theEnd, taken, refusal}
-use Rattle.fitness.specs.State.{answerText, width}
-use Rattle.fitness.specs.declared.State.{State}
+use Rattle.campaign_state.specs.State.{answerText, width}
+use Rattle.campaign_state.specs.declared.State.{State}
 use Rattle.campaign.specs.Calls.{answerOf}
 use Rattle.campaign.proofs.Tells.{within-room}
 use Rattle.printing.specs.Printing.{sequel, more, Printout, inFront, onward, linesFrom, linesIn}

@@ -6,7 +6,7 @@ use mathlib.Core.List.{List}
 use Prim.Native.Nat.{ℕ}
 use lib.ListN.{length}
 use Rattle.words.proofs.Once.{refusal-once}
-use Rattle.fitness.specs.declared.State.{State}
+use Rattle.campaign_state.specs.declared.State.{State}
 use Rattle.printing.specs.Answers.{filledTold, fillBytes, PrintedIs}
 use Rattle.printing.specs.declared.Filled.{Filled}
 use Rattle.printing.specs.declared.Filled.the-variants.{Lines, Ended, Refused}

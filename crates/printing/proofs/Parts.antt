@@ -9,7 +9,7 @@ use lib.Seq.{drop-length}
 use borrow.Rule.Slice.PartMut.{midOf, putMid, mid-len, post-is}
 use Rattle.promise.specs.Campaign as model
 use Rattle.promise.specs.Campaign.{request}
-use Rattle.fitness.specs.declared.State.{State}
+use Rattle.campaign_state.specs.declared.State.{State}
 use Rattle.campaign.specs.Answers.{RequestIs}
 use Rattle.campaign.specs.Calls.{answerOf, after, leftOf, bytesOf}
 use Rattle.campaign.specs.declared.Requested.{Requested}

@@ -19,8 +19,8 @@ use Rattle.promise.proofs.Progress.{work-moved, work-marked, work-closing}
 use Rattle.promise.proofs.Refusals.{ran-taken}
 use Rattle.plans.specs.Grammar.{Planned}
 use Rattle.plans.specs.Calls.{readPlanOf}
-use Rattle.fitness.specs.State.{width, settingOf, momentOf}
-use Rattle.fitness.specs.declared.State.{State}
+use Rattle.campaign_state.specs.State.{width, settingOf, momentOf}
+use Rattle.campaign_state.specs.declared.State.{State}
 use Rattle.campaign.specs.Calls.{answerOf, leftOf, begunOf}
 use Rattle.demands.specs.Code.{campaignOf}
 use Rattle.demands.proofs.Three.{lawful, accepts}

@@ -12,8 +12,8 @@ use Rattle.words.proofs.Told.{not-both}
 use Rattle.promise.specs.Campaign as model
 use Rattle.promise.specs.Campaign.{Call, request, movement, mark, theEnd, taken, refusal}
 use Rattle.promise.proofs.Refusals.{Answered, refused as why-refused, given, answered-so, served}
-use Rattle.fitness.specs.State.{answerText, width, momentOf}
-use Rattle.fitness.specs.declared.State.{State}
+use Rattle.campaign_state.specs.State.{answerText, width, momentOf}
+use Rattle.campaign_state.specs.declared.State.{State}
 use Rattle.campaign.specs.Calls.{answerOf, after, leftOf}
 use Rattle.campaign.proofs.Moments.{refusal-leaves}
 use Rattle.campaign.proofs.Tells.{any-room}

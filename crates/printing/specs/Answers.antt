@@ -8,8 +8,8 @@ use lib.ListN.{length}
 use Rattle.words.specs.Told.{Told, accepted, refused}
 use Rattle.words.specs.Meaning.{refusalOf}
 use Rattle.promise.specs.Campaign.{request}
-use Rattle.fitness.specs.State.{width}
-use Rattle.fitness.specs.declared.State.{State}
+use Rattle.campaign_state.specs.State.{width}
+use Rattle.campaign_state.specs.declared.State.{State}
 use Rattle.campaign.specs.Calls.{answerOf, over}
 use Rattle.printing.specs.Printing.{sequel, onward, linesIn}
 use Rattle.printing.specs.declared.Filled.{Filled}

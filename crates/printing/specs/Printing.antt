@@ -7,8 +7,8 @@ use mathlib.Core.List.{List, [], _++_}
 use Rattle.words.specs.Told.{Told, accepted, refused, nowhere}
 use Rattle.promise.specs.Campaign as model
 use Rattle.promise.specs.Campaign.{request, report, movement, mark, theEnd, taken, refusal}
-use Rattle.fitness.specs.State.{answerText, width}
-use Rattle.fitness.specs.declared.State.{State}
+use Rattle.campaign_state.specs.State.{answerText, width}
+use Rattle.campaign_state.specs.declared.State.{State}
 use Rattle.campaign.specs.Calls.{answerOf, leftOf}
 
 -- a mark that was handed out is reported as run; after any other answer there is nothing to report

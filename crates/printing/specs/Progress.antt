@@ -6,8 +6,8 @@ use mathlib.Core.List.{List, [], _++_}
 use Rattle.words.specs.Told.{Told, accepted, refused}
 use Rattle.promise.specs.Campaign.{request}
 use Rattle.promise.specs.Progress.{work}
-use Rattle.fitness.specs.State.{answerText, settingOf, momentOf}
-use Rattle.fitness.specs.declared.State.{State}
+use Rattle.campaign_state.specs.State.{answerText, settingOf, momentOf}
+use Rattle.campaign_state.specs.declared.State.{State}
 use Rattle.campaign.specs.Calls.{answerOf}
 use Rattle.printing.specs.Printing.{sequel, more, onward}
 

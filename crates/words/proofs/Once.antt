@@ -7,7 +7,7 @@ use lib.ListN.{getD}
 use Rattle.listing.specs.Orders.{swap, turn, nothing, one, two}
 use Rattle.listing.specs.Orders as list
 use Rattle.words.specs.Told.{Spot, nowhere, atJack, atLine}
-use Rattle.words.specs.Meaning.{jackAt, orderOf, orderFrom, moveOf, numberOf, spotOf, refusalOf}
+use Rattle.words.specs.Meaning.{jackAt, orderOf, orderFrom, moveOf, numberOf, spotOf, refusalOf, outcomeTold, numberedTold}
 use Rattle.words.specs.declared.Order.{Order}
 use Rattle.words.specs.declared.Order.the-variants.{Swap, Turn}
 use Rattle.words.specs.declared.Move.{Move}
@@ -17,6 +17,10 @@ use Rattle.words.specs.declared.Reason.the-variants.{Ports, Room, Outsid
 use Rattle.words.specs.declared.Place.{Place}
 use Rattle.words.specs.declared.Place.the-variants.{Nowhere, AtJack, AtLine}
 use Rattle.words.specs.declared.Refusal.{Refusal}
+use Rattle.words.specs.declared.Outcome.{Outcome}
+use Rattle.words.specs.declared.Outcome.the-variants.{Accepted, Refused as Outcome-Refused}
+use Rattle.words.specs.declared.Numbered.{Numbered}
+use Rattle.words.specs.declared.Numbered.the-variants.{Is, Refused as Numbered-Refused}
 
 -- ---- reading a meaning back
 
@@ -89,3 +93,15 @@ refusal-once r s e =
     let why : r .reason ≡ s .reason = sym (reason-back (r .reason)) ∙ ap reason number ∙ reason-back (s .reason) in
     let where-at : r .place ≡ s .place = sym (place-back (r .place)) ∙ ap place spot ∙ place-back (s .place) in
     λ i. record { reason = why i; place = where-at i }
+
+pub outcome-once : (r s : Outcome) → outcomeTold r ≡ outcomeTold s → r ≡ s
+outcome-once Accepted Accepted e = refl
+outcome-once Accepted (Outcome-Refused g) e = cc
+outcome-once (Outcome-Refused f) Accepted e = cc
+outcome-once (Outcome-Refused f) (Outcome-Refused g) e = ap Outcome-Refused (refusal-once f g e)
+
+pub numbered-once : (r s : Numbered) → numberedTold r ≡ numberedTold s → r ≡ s
+numbered-once (Is a) (Is b) e = ap Is (cc)
+numbered-once (Is a) (Numbered-Refused g) e = cc
+numbered-once (Numbered-Refused f) (Is b) e = cc
+numbered-once (Numbered-Refused f) (Numbered-Refused g) e = ap Numbered-Refused (refusal-once f g e)

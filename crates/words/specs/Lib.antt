@@ -1,3 +1,4 @@
 pub mod Told
 pub mod Meaning
 pub mod Shape
+pub mod Signs

@@ -3,7 +3,7 @@
 use Prim.Native.Nat.{ℕ}
 use Rattle.listing.specs.Orders.{swap, turn, nothing, one, two}
 use Rattle.listing.specs.Orders as list
-use Rattle.words.specs.Told.{Spot, nowhere, atJack, atLine, Told, refused}
+use Rattle.words.specs.Told.{Spot, nowhere, atJack, atLine, Told, accepted, refused}
 use Rattle.words.specs.declared.Jack.{Jack}
 use Rattle.words.specs.declared.Order.{Order}
 use Rattle.words.specs.declared.Order.the-variants.{Swap, Turn}
@@ -14,6 +14,10 @@ use Rattle.words.specs.declared.Reason.the-variants.{Ports, Room, Outsid
 use Rattle.words.specs.declared.Place.{Place}
 use Rattle.words.specs.declared.Place.the-variants.{Nowhere, AtJack, AtLine}
 use Rattle.words.specs.declared.Refusal.{Refusal}
+use Rattle.words.specs.declared.Outcome.{Outcome}
+use Rattle.words.specs.declared.Outcome.the-variants.{Accepted, Refused as Outcome-Refused}
+use Rattle.words.specs.declared.Numbered.{Numbered}
+use Rattle.words.specs.declared.Numbered.the-variants.{Is, Refused as Numbered-Refused}
 
 -- an order, by its jacks
 abbrev pub orderOf : Order → list.Order
@@ -63,3 +67,12 @@ spotOf (AtLine l) = atLine l
 -- what a refusal tells: its number and its place
 abbrev pub refusalOf : {A : Type 0} → Refusal → Told A
 refusalOf r = refused (numberOf (r .reason)) (spotOf (r .place))
+
+-- what an answer without values tells, and one with a number
+abbrev pub outcomeTold : Outcome → Told (Unit {0})
+outcomeTold Accepted = accepted tt
+outcomeTold (Outcome-Refused f) = refusalOf f
+
+abbrev pub numberedTold : Numbered → Told ℕ
+numberedTold (Is k) = accepted k
+numberedTold (Numbered-Refused f) = refusalOf f

@@ -1,6 +1,8 @@
 // The words of the bench as types. What each means, in numbers, stands in specs/.
-ghost use mathlib.Core.Path.{_≡_};
-ghost use Rattle.words.specs.declared.Place.the-variants.{Nowhere};
+pub mod limits;
+pub mod refusals;
+pub mod shapes;
+pub mod signs;
 
 // A jack of the panel, counted from 1.
 pub struct Jack(pub u8);
@@ -63,12 +65,27 @@ pub struct Refusal {
     pub place: Place,
 }
 
-// A refusal at no place that is said.
-pub fn nowhere(reason: Reason) -> Refusal
-    ensures { λ r. ⌜ r ≡ record { reason = reason; place = Nowhere } ⌝ }
-{
-    Refusal {
-        reason: reason,
-        place: Place::Nowhere,
-    }
+// A number by its sign: so many ahead or, where it goes back, behind 0.
+pub struct Signed {
+    pub back: bool,
+    pub magnitude: u64,
+}
+
+// A leg of a plan: its first rank, whether it runs backward, and how many steps it has.
+pub struct Leg {
+    pub start: u64,
+    pub back: bool,
+    pub run: u64,
+}
+
+// What a call answers that has nothing to give.
+pub enum Outcome {
+    Accepted,
+    Refused(Refusal),
+}
+
+// What a call answers that gives one number.
+pub enum Numbered {
+    Is(u64),
+    Refused(Refusal),
 }

@@ -6,8 +6,8 @@ use mir.ValLaws.{toZ-ofZ}
 use borrow.Author.Needs.{needs}
 use Rattle.listing.specs.Limits.{mostPorts}
 use Rattle.patterns.specs.Calls.{stepOf}
-use Rattle.crossing.specs.Answers.{numberTold, wordsTold}
-use Rattle.facing.specs.Values.{oneNumber}
+use Rattle.face_values.specs.Answers.{numberTold, wordsTold}
+use Rattle.face_laws.specs.Values.{oneNumber}
 use Rattle.face.proofs.jidrofex_step.Statement.{statement}
 use Rattle.face.proofs.jidrofex_step.Tie as tie
 

@@ -2,7 +2,7 @@
 -- Assumes nothing.
 use mathlib.Core.Path.{sym, ap, subst, _∙_}
 use borrow.Author.Needs.{needs}
-use Rattle.plans.specs.Answers.{judgedTold}
+use Rattle.words.specs.Meaning.{outcomeTold}
 use Rattle.printing.proofs.Progress.{Running, running-begun}
 use Rattle.orders.proofs.print_plan.Statement.{statement}
 use Rattle.orders.proofs.print_plan.Tie as tie
@@ -10,7 +10,7 @@ use Rattle.orders.proofs.print_plan.Tie as tie
 print-all-requires : tie.Need-print-all-requires
 print-all-requires c κs =
     let b = c .before .before .before in
-    subst Running (sym (b .begin .ensures .state)) (running-begun _ (ap judgedTold (sym (c .enum-told .given .1)) ∙ b .begin .ensures .judged))
+    subst Running (sym (b .begin .ensures .state)) (running-begun _ (ap outcomeTold (sym (c .enum-told .given .1)) ∙ b .begin .ensures .judged))
 
 pub print-plan-spec : {M : Type 1} → statement M
 print-plan-spec =

@@ -3,7 +3,7 @@
 use mathlib.Core.Path.{sym}
 use lib.Seq.{length-take-le}
 use borrow.Author.Needs.{needs}
-use Rattle.writing.proofs.Spelling.{spells-within}
+use Rattle.line_writer.proofs.Spelling.{spells-within}
 use Rattle.orders.proofs.print_refusal.Statement.{statement}
 use Rattle.orders.proofs.print_refusal.Tie as tie
 

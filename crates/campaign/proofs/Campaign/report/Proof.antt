@@ -2,8 +2,8 @@
 use mathlib.Core.Path.{refl, sym, ap, _∙_}
 use borrow.Author.Needs.{needs}
 use Rattle.words.specs.declared.Reason.the-variants.{Unfit}
-use Rattle.fitness.specs.Standing.{stanceIs, unfit, atMark, atEnd, clear, next}
-use Rattle.fitness.proofs.Fit.{stands}
+use Rattle.campaign_state.specs.Standing.{stanceIs, unfit, atMark, atEnd, clear, next}
+use Rattle.campaign_state.proofs.Fit.{stands}
 use Rattle.campaign.proofs.Asked.{unfit-answer}
 use Rattle.campaign.proofs.Tells.{report-refused}
 use Rattle.campaign.proofs.Campaign.report.Statement.{statement}

@@ -7,9 +7,9 @@ use Rattle.words.specs.Shape.{lineFits}
 use Rattle.words.specs.declared.Reason.the-variants.{Unfit, MarkStands}
 use Rattle.words.proofs.Shape.{shape-shaped}
 use Rattle.promise.specs.Campaign.{request, theEnd}
-use Rattle.fitness.specs.Standing.{stanceIs, unfit, atMark, atEnd, clear, next, standOf}
-use Rattle.fitness.proofs.Fit.{fit-inside, Coming, stands}
-use Rattle.fitness.proofs.Places.{Sized, few-ports, start-below}
+use Rattle.campaign_state.specs.Standing.{stanceIs, unfit, atMark, atEnd, clear, next, standOf}
+use Rattle.campaign_state.proofs.Fit.{fit-inside, Coming, stands}
+use Rattle.campaign_state.proofs.Places.{Sized, few-ports, start-below}
 use Rattle.campaign.specs.Calls.{answerOf, lineIs, roomed}
 use Rattle.campaign.proofs.Asked.{unfit-answer, standing-answer, end-answer, mark-answer, order-answer, next-shaped}
 use Rattle.campaign.proofs.Tells.{request-refused, request-as, bytes-by, bytes-stay}

@@ -3,8 +3,8 @@ use mathlib.Core.Path.{_≡_, ap}
 use native.Mathlib.Omega.{arith}
 use borrow.Author.Needs.{needs}
 use Rattle.promise.specs.Campaign.{here}
-use Rattle.fitness.specs.State.{settingOf, momentOf}
-use Rattle.fitness.proofs.Places.{Sized, plan-ruled, many-legs, leg-below, few-legs}
+use Rattle.campaign_state.specs.State.{settingOf, momentOf}
+use Rattle.campaign_state.proofs.Places.{Sized, plan-ruled, many-legs, leg-below, few-legs}
 use Rattle.campaign.proofs.Moments.{closed-step, closed-leg, closed-last}
 use Rattle.campaign.proofs.reports.closed_mark.Statement.{statement}
 use Rattle.campaign.proofs.reports.closed_mark.Tie as tie

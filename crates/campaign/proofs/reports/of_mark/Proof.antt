@@ -5,8 +5,8 @@ use borrow.Author.Needs.{needs}
 use Rattle.words.specs.declared.Reason.the-variants.{Kind, Errors}
 use Rattle.promise.specs.Campaign as model
 use Rattle.promise.specs.Campaign.{report, taken}
-use Rattle.fitness.proofs.Fit.{fit-inside}
-use Rattle.fitness.proofs.Places.{Sized}
+use Rattle.campaign_state.proofs.Fit.{fit-inside}
+use Rattle.campaign_state.proofs.Places.{Sized}
 use Rattle.campaign.specs.Calls.{after}
 use Rattle.campaign.proofs.Moments.{counted-inside, ran-leaves, gave-up-leaves, error-leaves}
 use Rattle.campaign.proofs.Asked.{counts-room, kind-answer, full-answer, error-answer, ran-answer, gave-up-answer}

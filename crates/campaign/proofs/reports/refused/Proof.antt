@@ -1,7 +1,7 @@
 -- `campaign::reports::refused` answers the refusal at no place, beside the state as it was.
 use mathlib.Core.Path.{ap}
 use borrow.Author.Needs.{needs}
-use Rattle.campaign.specs.declared.Heard.the-variants.{Refused}
+use Rattle.words.specs.declared.Outcome.the-variants.{Refused}
 use Rattle.campaign.proofs.reports.refused.Statement.{statement}
 use Rattle.campaign.proofs.reports.refused.Tie as tie
 

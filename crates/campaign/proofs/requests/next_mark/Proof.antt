@@ -4,7 +4,7 @@ use borrow.Author.Needs.{needs}
 use Rattle.words.specs.declared.Line.the-variants.{Mark}
 use Rattle.promise.specs.Plan.{stepped}
 use Rattle.promise.specs.Derangements.{derangements}
-use Rattle.fitness.proofs.Places.{Sized, plan-ruled, few-ports, leg-below, step-below, start-listed}
+use Rattle.campaign_state.proofs.Places.{Sized, plan-ruled, few-ports, leg-below, step-below, start-listed}
 use Rattle.campaign.proofs.requests.next_mark.Statement.{statement}
 use Rattle.campaign.proofs.requests.next_mark.Tie as tie
 

@@ -4,19 +4,19 @@ use mathlib.Core.Path.{_≡_, refl, sym, ap, _∙_}
 use mathlib.Core.Bool.{false}
 use native.Mathlib.Omega.{arith}
 use borrow.Author.Needs.{needs}
+use Rattle.words.specs.Meaning.{outcomeTold}
 use Rattle.listing.specs.Limits.{mostPorts}
 use Rattle.words.specs.Told.{accepted}
 use Rattle.words.proofs.Shape.{shaped-shape}
-use Rattle.checks.specs.Calls.{checkAs}
-use Rattle.checks.specs.Answers.{checkedTold}
-use Rattle.checks.proofs.Accepted.{accepted-panel}
+use Rattle.pattern_check.specs.Calls.{checkAs}
+use Rattle.pattern_check.proofs.Accepted.{accepted-panel}
 use Rattle.panel.proofs.Accepted.{carry-refused, carry-accepted, carry-unfitting}
 use Rattle.panel.proofs.lines.carry.Statement.{statement}
 use Rattle.panel.proofs.lines.carry.Tie as tie
 
 -- the check that the match found sound was accepted
 sound : (c : tie.After-enum-told) → accepted tt ≡ checkAs false mostPorts (c .before .before .before .before .before .args .panel .now)
-sound c = ap checkedTold (sym (c .enum-told .given .1)) ∙ c .before .before .check-panel .ensures
+sound c = ap outcomeTold (sym (c .enum-told .given .1)) ∙ c .before .before .check-panel .ensures
 
 cast-n : tie.Need-cast-n
 cast-n c = omega (arith, accepted-panel mostPorts _ (sound (c .before .before .before)) .high)
@@ -32,7 +32,7 @@ returns c =
     (told .0, c .before .before .carry-order .ensures ∙ told .1)
 
 returns-2 : tie.Need-returns-2
-returns-2 c = carry-refused mostPorts _ _ _ _ (ap checkedTold (sym (c .before .f .given .1)) ∙ c .before .before .before .check-panel .ensures)
+returns-2 c = carry-refused mostPorts _ _ _ _ (ap outcomeTold (sym (c .before .f .given .1)) ∙ c .before .before .before .check-panel .ensures)
 
 returns-3 : tie.Need-returns-3
 returns-3 c =

@@ -6,8 +6,8 @@ use native.Mathlib.Numerals.{add-one}
 use native.Mathlib.Omega.{arith}
 use lib.ListN.{length}
 use borrow.Author.Needs.{needs}
-use Rattle.checks.specs.Faults.{seek}
-use Rattle.checks.proofs.Faults.{seek-here, seek-on, seek-none}
+use Rattle.pattern_check.specs.Faults.{seek}
+use Rattle.pattern_check.proofs.Faults.{seek-here, seek-on, seek-none}
 use Rattle.panel.proofs.lookups.holder.Statement.{statement}
 use Rattle.panel.proofs.lookups.holder.Tie as tie
 

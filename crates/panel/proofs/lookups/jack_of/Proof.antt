@@ -6,10 +6,9 @@ use native.Mathlib.Omega.{arith}
 use borrow.Author.Needs.{needs}
 use Rattle.listing.specs.Limits.{mostPorts}
 use Rattle.words.specs.Told.{accepted}
-use Rattle.words.specs.Meaning.{refusalOf}
-use Rattle.checks.specs.Calls.{checkAs}
-use Rattle.checks.specs.Answers.{checkedTold}
-use Rattle.checks.proofs.Accepted.{accepted-panel}
+use Rattle.words.specs.Meaning.{refusalOf, outcomeTold}
+use Rattle.pattern_check.specs.Calls.{checkAs}
+use Rattle.pattern_check.proofs.Accepted.{accepted-panel}
 use Rattle.panel.specs.Calls.{jackOf}
 use Rattle.panel.proofs.Accepted.{panel-refused, fitting, unfitting}
 use Rattle.panel.proofs.lookups.jack_of.Statement.{statement}
@@ -17,7 +16,7 @@ use Rattle.panel.proofs.lookups.jack_of.Tie as tie
 
 -- the check that the match found sound was accepted
 sound : (c : tie.After-enum-told) → accepted tt ≡ checkAs false mostPorts (c .before .before .before .before .args .panel .now)
-sound c = ap checkedTold (sym (c .enum-told .given .1)) ∙ c .before .before .check-panel .ensures
+sound c = ap outcomeTold (sym (c .enum-told .given .1)) ∙ c .before .before .check-panel .ensures
 
 cast-one-of : tie.Need-cast-one-of
 cast-one-of c = omega (arith, accepted-panel mostPorts _ (sound c) .high)
@@ -33,7 +32,7 @@ returns c =
 
 returns-2 : tie.Need-returns-2
 unfolding jackOf
-returns-2 c = panel-refused mostPorts _ _ _ _ _ (ap checkedTold (sym (c .before .f .given .1)) ∙ c .before .before .before .check-panel .ensures)
+returns-2 c = panel-refused mostPorts _ _ _ _ _ (ap outcomeTold (sym (c .before .f .given .1)) ∙ c .before .before .before .check-panel .ensures)
 
 returns-3 : tie.Need-returns-3
 unfolding jackOf

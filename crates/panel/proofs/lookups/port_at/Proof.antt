@@ -8,11 +8,10 @@ use borrow.Author.Needs.{needs}
 use Rattle.listing.specs.Numbers.{Among}
 use Rattle.listing.specs.Limits.{mostPorts}
 use Rattle.words.specs.Told.{accepted}
-use Rattle.words.specs.Meaning.{refusalOf}
+use Rattle.words.specs.Meaning.{refusalOf, outcomeTold}
 use Rattle.words.proofs.Shape.{one-of}
-use Rattle.checks.specs.Calls.{checkAs}
-use Rattle.checks.specs.Answers.{checkedTold}
-use Rattle.checks.proofs.Accepted.{accepted-panel}
+use Rattle.pattern_check.specs.Calls.{checkAs}
+use Rattle.pattern_check.proofs.Accepted.{accepted-panel}
 use Rattle.panel.specs.Calls.{portOf}
 use Rattle.panel.proofs.Accepted.{panel-refused, fitting, unfitting, jack-entry}
 use Rattle.panel.proofs.lookups.port_at.Statement.{statement}
@@ -20,7 +19,7 @@ use Rattle.panel.proofs.lookups.port_at.Tie as tie
 
 -- the check that the match found sound was accepted
 sound : (c : tie.After-enum-told) → accepted tt ≡ checkAs false mostPorts (c .before .before .before .before .args .panel .now)
-sound c = ap checkedTold (sym (c .enum-told .given .1)) ∙ c .before .before .check-panel .ensures
+sound c = ap outcomeTold (sym (c .enum-told .given .1)) ∙ c .before .before .check-panel .ensures
 
 cast-one-of : tie.Need-cast-one-of
 cast-one-of c = omega (arith, accepted-panel mostPorts _ (sound c) .high)
@@ -45,7 +44,7 @@ returns c =
 
 returns-2 : tie.Need-returns-2
 unfolding portOf
-returns-2 c = panel-refused mostPorts _ _ _ _ _ (ap checkedTold (sym (c .before .f .given .1)) ∙ c .before .before .before .check-panel .ensures)
+returns-2 c = panel-refused mostPorts _ _ _ _ _ (ap outcomeTold (sym (c .before .f .given .1)) ∙ c .before .before .before .check-panel .ensures)
 
 returns-3 : tie.Need-returns-3
 unfolding portOf

@@ -4,7 +4,7 @@ use borrow.Author.Needs.{needs}
 use Rattle.words.specs.Told.{accepted}
 use Rattle.words.specs.Meaning.{refusalOf}
 use Rattle.patterns.specs.Calls.{countOf}
-use Rattle.checks.proofs.Calls.{too-few, too-many, fits}
+use Rattle.pattern_check.proofs.Calls.{too-few, too-many, fits}
 use Rattle.patterns.proofs.counting.count.Statement.{statement}
 use Rattle.patterns.proofs.counting.count.Tie as tie
 

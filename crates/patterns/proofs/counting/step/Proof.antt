@@ -11,7 +11,7 @@ use Rattle.listing.proofs.Limits.{counts-fit}
 use Rattle.words.specs.Told.{accepted}
 use Rattle.words.specs.Meaning.{refusalOf}
 use Rattle.patterns.specs.Calls.{stepOf}
-use Rattle.checks.proofs.Calls.{too-few, too-many, fits}
+use Rattle.pattern_check.proofs.Calls.{too-few, too-many, fits}
 use Rattle.patterns.proofs.Calls.{is-rank, no-rank}
 use Rattle.patterns.proofs.counting.step.Statement.{statement}
 use Rattle.patterns.proofs.counting.step.Tie as tie

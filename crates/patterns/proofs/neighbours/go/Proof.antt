@@ -9,17 +9,16 @@ use Rattle.listing.specs.Rank.{rank}
 use Rattle.listing.specs.Orders.{moved}
 use Rattle.listing.specs.Neighbours.{moveBeside}
 use Rattle.words.specs.Told.{accepted}
-use Rattle.words.specs.Meaning.{moveOf}
-use Rattle.checks.specs.Calls.{checkOf}
-use Rattle.checks.specs.Answers.{checkedTold}
-use Rattle.checks.proofs.Accepted.{accepted-pattern}
+use Rattle.words.specs.Meaning.{moveOf, outcomeTold}
+use Rattle.pattern_check.specs.Calls.{checkOf}
+use Rattle.pattern_check.proofs.Accepted.{accepted-pattern}
 use Rattle.patterns.proofs.Accepted.{rank-fits, goes, beside-refused, beside-accepted}
 use Rattle.patterns.proofs.neighbours.go.Statement.{statement}
 use Rattle.patterns.proofs.neighbours.go.Tie as tie
 
 -- the check that the match found sound was accepted
 sound : (c : tie.After-enum-told) → accepted tt ≡ checkOf mostPorts (c .before .before .before .before .before .args .p .now)
-sound c = ap checkedTold (sym (c .enum-told .given .1)) ∙ c .before .before .check .ensures
+sound c = ap outcomeTold (sym (c .enum-told .given .1)) ∙ c .before .before .check .ensures
 
 cast-n : tie.Need-cast-n
 cast-n c = omega (arith, accepted-pattern mostPorts _ (sound c) .high)
@@ -57,7 +56,7 @@ carry-move-requires c κs =
     rw (move-is (c .before)) (goes mostPorts _ (sound s) (s .before .before .before .before .before .args .back) .form)
 
 returns : tie.Need-returns
-returns c = beside-refused mostPorts (c .before .before .before .before .before .before .args .back) _ _ _ (ap checkedTold (sym (c .before .f .given .1)) ∙ c .before .before .before .check .ensures)
+returns c = beside-refused mostPorts (c .before .before .before .before .before .before .args .back) _ _ _ (ap outcomeTold (sym (c .before .f .given .1)) ∙ c .before .before .before .check .ensures)
 
 returns-2 : tie.Need-returns-2
 returns-2 c =

@@ -3,19 +3,19 @@ use mathlib.Core.Path.{_≡_, sym, ap, _∙_}
 use native.Mathlib.Omega.{arith}
 use lib.ListN.{length}
 use borrow.Author.Needs.{needs}
+use Rattle.words.specs.Meaning.{outcomeTold}
 use Rattle.listing.specs.Limits.{mostPorts}
 use Rattle.listing.specs.Rank.{rank}
 use Rattle.words.specs.Told.{accepted}
-use Rattle.checks.specs.Calls.{checkOf}
-use Rattle.checks.specs.Answers.{checkedTold}
-use Rattle.checks.proofs.Accepted.{accepted-pattern}
+use Rattle.pattern_check.specs.Calls.{checkOf}
+use Rattle.pattern_check.proofs.Accepted.{accepted-pattern}
 use Rattle.patterns.proofs.Accepted.{rank-refused, rank-accepted}
 use Rattle.patterns.proofs.ranking.rank.Statement.{statement}
 use Rattle.patterns.proofs.ranking.rank.Tie as tie
 
 -- the check that the match found sound was accepted
 sound : (c : tie.After-enum-told) → accepted tt ≡ checkOf mostPorts (c .before .before .before .before .args .p .now)
-sound c = ap checkedTold (sym (c .enum-told .given .1)) ∙ c .before .before .check .ensures
+sound c = ap outcomeTold (sym (c .enum-told .given .1)) ∙ c .before .before .check .ensures
 
 load-requires : tie.Need-load-requires
 load-requires c κs = accepted-pattern mostPorts _ (sound c) .high
@@ -29,7 +29,7 @@ place-requires c κs =
     (whole .high, rw (c .load .ensures) (whole .is))
 
 returns : tie.Need-returns
-returns c = rank-refused mostPorts _ _ _ (ap checkedTold (sym (c .before .f .given .1)) ∙ c .before .before .before .check .ensures)
+returns c = rank-refused mostPorts _ _ _ (ap outcomeTold (sym (c .before .f .given .1)) ∙ c .before .before .before .check .ensures)
 
 returns-2 : tie.Need-returns-2
 returns-2 c =

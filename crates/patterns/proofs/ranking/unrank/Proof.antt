@@ -5,7 +5,7 @@ use lib.ListN.{length}
 use borrow.Author.Needs.{needs}
 use Rattle.words.specs.Meaning.{refusalOf}
 use Rattle.patterns.proofs.Accepted.{unrank-refused, unrank-accepted}
-use Rattle.checks.proofs.Calls.{too-few, too-many, fits}
+use Rattle.pattern_check.proofs.Calls.{too-few, too-many, fits}
 use Rattle.patterns.proofs.Calls.{no-rank, is-rank}
 use Rattle.patterns.specs.Calls.{unrankOf}
 use Rattle.patterns.proofs.ranking.unrank.Statement.{statement}

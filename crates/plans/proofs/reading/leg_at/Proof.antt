@@ -5,9 +5,9 @@ use lib.ListN.{drop}
 use borrow.Author.Needs.{needs}
 use Rattle.listing.specs.Limits.{largest64}
 use Rattle.words.specs.Told.{accepted}
-use Rattle.decimals.specs.Signed.{Signed, ahead, behind}
-use Rattle.fields.specs.Field.{Got, fieldIn}
-use Rattle.fields.specs.Places.{numberedTold, NumberWithin, runTold, RunWithin}
+use Rattle.text_numbers.specs.Signed.{Signed, ahead, behind}
+use Rattle.plan_lines.specs.Field.{Got, fieldIn}
+use Rattle.plan_lines.specs.Places.{numberedTold, NumberWithin, runTold, RunWithin}
 use Rattle.plans.specs.Reading.{startField}
 use Rattle.plans.proofs.Legs.{start-refused, run-refused, leg-taken}
 use Rattle.plans.proofs.reading.leg_at.Statement.{statement}

@@ -7,12 +7,12 @@ use borrow.Author.Needs.{needs}
 use Rattle.listing.specs.Limits.{mostLegs, largest64}
 use Rattle.words.specs.Told.{accepted}
 use Rattle.plans.specs.Grammar.{portsKey, legsKey}
-use Rattle.fields.specs.Field.{fieldIn}
-use Rattle.fields.specs.Places.{numberedTold, NumberWithin}
+use Rattle.plan_lines.specs.Field.{fieldIn}
+use Rattle.plan_lines.specs.Places.{numberedTold, NumberWithin}
 use Rattle.plans.specs.Reading.{portsField, legsField}
 use Rattle.plans.specs.Answers.{Answers}
 use Rattle.plans.specs.Calls.{device}
-use Rattle.fields.proofs.Numbers.{number-accepted}
+use Rattle.plan_lines.proofs.Numbers.{number-accepted}
 use Rattle.plans.proofs.Plans.{ports-refused, legs-line-refused, legs-decide}
 use Rattle.plans.proofs.reading.read_plan.Statement.{statement}
 use Rattle.plans.proofs.reading.read_plan.Tie as tie

@@ -1,0 +1,34 @@
+-- What is still to come before a mark, by its next order alone.
+-- Assumes nothing.
+use Prim.Native.Nat.{ℕ, zero, suc}
+use mathlib.Core.Bool.{cond}
+use mathlib.Core.List.{List, [], _∷_}
+use mathlib.Core.Option.{Option, none, some}
+use lib.Dec.{eqb}
+use Rattle.listing.specs.Pattern.{entry}
+use Rattle.listing.specs.Orders as list
+use Rattle.words.specs.Meaning.{orderOf}
+use Rattle.campaign_way.specs.declared.ToCome.{ToCome}
+use Rattle.campaign_way.specs.declared.ToCome.the-variants.{Astray, Clear, Next}
+
+-- of the orders still to come the next one, if there is one; none where the panel may not stand there
+abbrev pub nextOf : Option (List list.Order) → Option (Option list.Order)
+nextOf none = none
+nextOf (some []) = some none
+nextOf (some (o ∷ os)) = some (some o)
+
+-- the same of an answer
+abbrev pub comingIs : ToCome → Option (Option list.Order)
+comingIs Astray = none
+comingIs Clear = some none
+comingIs (Next o) = some (some (orderOf o))
+
+-- what was found further on, or else what is found here
+abbrev pub orNext : Option (Option list.Order) → Option (Option list.Order) → Option (Option list.Order)
+orNext none b = b
+orNext (some a) b = some a
+
+-- the first of k jacks, from jack j on, at which two panels differ; 0 if none does
+unfoldable pub wrongFrom : ℕ → ℕ → List ℕ → List ℕ → ℕ
+wrongFrom zero j p q = 0
+wrongFrom (suc k) j p q = cond (eqb (entry p j) (entry q j)) (wrongFrom k (suc j) p q) j

@@ -1,0 +1,26 @@
+// The ranks that a leg names, round the circuit.
+ghost use mathlib.Core.Path.{_≡_};
+ghost use Prim.Native.Nat.{_≤_, _<_};
+ghost use Rattle.listing.specs.Count.{count};
+ghost use Rattle.listing.specs.Limits.{mostPorts};
+ghost use Rattle.promise.specs.Plan.{stepped};
+ghost use Rattle.promise.specs.Derangements.{derangements};
+use pattern_steps::counts::count_of;
+
+// The rank k steps on from a rank, or k steps back, round the circuit.
+pub fn rank_along(n: u8, start: u64, back: bool, k: u64) -> u64
+    requires { ⌜ (2 ≤ n) × (n ≤ mostPorts) × (start < count n) × (k < count n) ⌝ }
+    ensures { λ r. ⌜ r ≡ stepped (derangements n) back start k ⌝ }
+{
+    let total = count_of(n);
+    if back {
+        if k <= start {
+            return start - k;
+        }
+        return total - (k - start);
+    }
+    if k < total - start {
+        return start + k;
+    }
+    k - (total - start)
+}

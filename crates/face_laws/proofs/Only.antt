@@ -1,0 +1,100 @@
+-- Nothing else meets the contract of a call: what two runs of it answer and leave is the same. A law for each call, all by `only`.
+-- Assumes nothing.
+use mathlib.Core.Path.{_≡_, sym, _∙_}
+use mathlib.Core.Bool.{Bool}
+use mathlib.Core.List.{List, [], _∷_}
+use Prim.Native.Nat.{ℕ}
+use lib.IntN.{ℤ}
+use lib.ListN.{length}
+use Rattle.listing.specs.Limits.{mostPorts, largest64}
+use Rattle.words.specs.Told.{Told}
+use Rattle.promise.specs.Campaign.{request, report}
+use Rattle.pattern_check.specs.Calls.{checkAs}
+use Rattle.patterns.specs.Calls.{countOf, rankOf, unrankOf, unrankBytes, besideOf, besideBytes, stepOf}
+use Rattle.panel.specs.Calls.{portOf, jackOf, carryOf, carryBytes}
+use Rattle.line_format.specs.Calls.{writeOf, writeBytes}
+use Rattle.line_format.specs.Reading.{readOf}
+use Rattle.face_values.specs.Answers.{numberTold, wordsTold}
+use Rattle.face_values.specs.Lines.{moveWords, lineIn}
+use Rattle.face_laws.specs.Values.{nothing, oneNumber, lineAndPlace, orderAndBytes, bytesAndEnd}
+use Rattle.face_laws.specs.Calls.{calledTold, calledWords, requestBytes, ordersTold, ordersWords, ordersBytes, beginTold, beginWords}
+
+-- what a call answers and leaves: its number, the words of the answer, and the contents of each lent slice that it may change
+pub record Result : Type 0 where
+  pub number : ℕ
+  pub words : List ℕ
+  pub left : List (List ℕ)
+
+-- the clauses of a contract
+pub record Meets {A : Type 0} (values : A → List ℕ) (told : Told A) (leaves : List (List ℕ)) (r : Result) : Type 0 where
+  pub number : r .number ≡ numberTold told
+  pub words : r .words ≡ wordsTold values told
+  pub left : r .left ≡ leaves
+
+-- one result meets them
+only : {A : Type 0} (values : A → List ℕ) (told : Told A) (left : List (List ℕ)) (r s : Result) → Meets values told left r → Meets values told left s → r ≡ s
+only values told left r s m n = λ i. record {
+  number = (m .number ∙ sym (n .number)) i;
+  words = (m .words ∙ sym (n .words)) i;
+  left = (m .left ∙ sym (n .left)) i;
+}
+
+-- that one result meets a contract
+abbrev pub Only : {A : Type 0} → (A → List ℕ) → Told A → List (List ℕ) → Type 0
+Only values told left = (r s : Result) → Meets values told left r → Meets values told left s → r ≡ s
+
+-- ---- patterns
+
+-- check and check_panel
+pub only-check : (pattern : Bool) (p : List ℕ) → Only nothing (checkAs pattern mostPorts p) []
+only-check pattern p = only _ _ _
+
+pub only-count : (ports : ℕ) → Only oneNumber (countOf mostPorts ports) []
+only-count ports = only _ _ _
+
+pub only-rank : (p : List ℕ) → Only oneNumber (rankOf mostPorts p) []
+only-rank p = only _ _ _
+
+pub only-unrank : (rank : ℕ) (p : List ℕ) → Only nothing (unrankOf mostPorts rank p) (unrankBytes mostPorts rank p ∷ [])
+only-unrank rank p = only _ _ _
+
+-- next and previous
+pub only-beside : (back : Bool) (p : List ℕ) → Only moveWords (besideOf mostPorts back p) (besideBytes mostPorts back p ∷ [])
+only-beside back p = only _ _ _
+
+pub only-step : (ports rank : ℕ) (k : ℤ) → Only oneNumber (stepOf mostPorts ports rank k) []
+only-step ports rank k = only _ _ _
+
+-- ---- a panel
+
+pub only-port-at : (p : List ℕ) (jack : ℕ) → Only oneNumber (portOf mostPorts p jack) []
+only-port-at p jack = only _ _ _
+
+pub only-jack-of : (p : List ℕ) (port : ℕ) → Only oneNumber (jackOf mostPorts p port) []
+only-jack-of p port = only _ _ _
+
+pub only-carry : (line p : List ℕ) → Only nothing (carryOf mostPorts (lineIn line) p) (carryBytes mostPorts (lineIn line) p ∷ [])
+only-carry line p = only _ _ _
+
+-- ---- order lines
+
+pub only-write-line : (line buf : List ℕ) → Only oneNumber (writeOf mostPorts (lineIn line) buf) (writeBytes mostPorts (lineIn line) buf ∷ [])
+only-write-line line buf = only _ _ _
+
+pub only-read-line : (t : List ℕ) (place : ℕ) → Only lineAndPlace (readOf largest64 mostPorts t place) []
+only-read-line t place = only _ _ _
+
+-- ---- a campaign
+
+pub only-begin : (t ws : List ℕ) → Only nothing (beginTold t ws) (beginWords t ws ∷ [])
+only-begin t ws = only _ _ _
+
+pub only-request : (ws buf : List ℕ)
+    → Only orderAndBytes (calledTold (request (length buf)) ws) (calledWords (request (length buf)) ws ∷ requestBytes ws buf ∷ [])
+only-request ws buf = only _ _ _
+
+pub only-report : (ws : List ℕ) (kind : ℕ) → Only nothing (calledTold (report kind) ws) (calledWords (report kind) ws ∷ [])
+only-report ws kind = only _ _ _
+
+pub only-orders : (ws buf : List ℕ) → Only bytesAndEnd (ordersTold (length buf) ws) (ordersWords (length buf) ws ∷ ordersBytes ws buf ∷ [])
+only-orders ws buf = only _ _ _

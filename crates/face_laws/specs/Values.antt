@@ -1,0 +1,38 @@
+-- The values that an accepted call gives, in words, as include/jidrofex.h names them at each call. The zeros after them are the answer's.
+-- Assumes nothing.
+use Prim.Native.Nat.{ℕ}
+use mathlib.Core.Bool.{Bool}
+use mathlib.Core.List.{List, [], _∷_, _++_}
+use mathlib.Core.Option.{Option, none, some}
+use lib.ListN.{length}
+use Rattle.words.specs.declared.Line.{Line}
+use Rattle.promise.specs.Campaign as model
+use Rattle.line_format.specs.Format.{lineText}
+use Rattle.campaign_state.specs.State.{answerLine}
+use Rattle.face_values.specs.Lines.{lineWords}
+use Rattle.face_state.specs.States.{bit}
+
+-- 'Gives nothing'
+abbrev pub nothing : {A : Type 0} → A → List ℕ
+nothing a = []
+
+-- 'Gives the count', the rank, the port, the jack, how many bytes: one number
+abbrev pub oneNumber : ℕ → List ℕ
+oneNumber k = k ∷ []
+
+-- 'Gives the line's four words and the place after its newline'
+abbrev pub lineAndPlace : Line × ℕ → List ℕ
+lineAndPlace (l, place) = lineWords l ++ (place ∷ [])
+
+-- a line that was written, if there is one: its four words and 'how many bytes it takes'
+abbrev pub writtenLine : Option Line → List ℕ
+writtenLine none = []
+writtenLine (some l) = lineWords l ++ (length (lineText l) ∷ [])
+
+-- 'Gives the line's four words and how many bytes it takes', of the answer to a request
+abbrev pub orderAndBytes : model.Answer → List ℕ
+orderAndBytes a = writtenLine (answerLine a)
+
+-- 'Gives how many bytes they take, and 1 if the end is among them'
+abbrev pub bytesAndEnd : ℕ × Bool → List ℕ
+bytesAndEnd x = x .0 ∷ bit (x .1) ∷ []

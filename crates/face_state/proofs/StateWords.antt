@@ -1,0 +1,156 @@
+-- States in words: what the words of a state are, place by place (`start-word` to `last-word`), and the state that
+-- words are, field by field (`state-of`, `words-fit`, `is-state`, `no-state`). That neither loses anything of the other is said in Back.
+-- Assumes nothing.
+use mathlib.Core.Path.{_≡_, refl, sym, ap, _∙_}
+use mathlib.Core.Bool.{Bool, true, false, cond}
+use mathlib.Core.List.{List, [], _∷_, _++_, map}
+use mathlib.Core.Option.{Option, none, some}
+use Prim.Native.Nat.{ℕ, _+_, _-_, _≤_, _<_}
+use native.Mathlib.Omega.{arith}
+use lib.Dec.{eqb}
+use lib.IntN.{ℤ, pos}
+use lib.ListN.{length, getD, take, drop, length-append, length-map, List·getD-map}
+use mir.Val.{boolByte}
+use Rattle.listing.specs.Limits.{mostPorts, mostLegs}
+use Rattle.listing.proofs.Numbers.{either, test}
+use Rattle.text_numbers.proofs.Inverse.{none-some}
+use Rattle.campaign_state.specs.declared.State.{State}
+use Rattle.campaign_state.proofs.Places.{Sized}
+use Rattle.face_values.specs.Lines.{largest8}
+use Rattle.face_state.specs.States.{stateCount, runBits, runIn, bit, lastWords, stateWords, limits, within, word, wordsAt, stateAt, stateIn}
+use Rattle.face_state.specs.Held.{heldIs, WordsFit}
+use Rattle.face_state.specs.declared.Held.{Held}
+use Rattle.face_state.proofs.Parts.{past, inside, run-at}
+use Rattle.face_state.proofs.Within.{within-length, within-at}
+
+-- ---- the words of a state, place by place
+
+module _ (s : State) (z : Sized s) where
+  pub bits-length : length (map runBits (s .plan .runs)) ≡ mostLegs
+  bits-length = length-map (s .plan .runs) runBits ∙ z .runs
+
+  -- they are 61
+  pub words-length : length (stateWords s) ≡ stateCount
+  words-length =
+      let a = length-append (s .plan .starts) (map runBits (s .plan .runs) ++ (s .panel ++ lastWords s)) in
+      let b = length-append (map runBits (s .plan .runs)) (s .panel ++ lastWords s) in
+      let c = length-append (s .panel) (lastWords s) in
+      omega (arith, bits-length, z .starts, z .panel)
+
+  -- a front of the words, and what stands past it
+  abbrev two : List ℕ
+  two = s .plan .ports ∷ s .plan .legs ∷ []
+
+  pub start-word : (at : ℕ) → 2 ≤ at → at < 18 → word (stateWords s) at ≡ word (s .plan .starts) (at - 2)
+  start-word at low high =
+      past two (s .plan .starts ++ (map runBits (s .plan .runs) ++ (s .panel ++ lastWords s))) 2 at 0 refl low
+      ∙ inside (s .plan .starts) (map runBits (s .plan .runs) ++ (s .panel ++ lastWords s)) mostLegs (at - 2) 0 (z .starts) (omega arith)
+
+  -- from place 18 on
+  from-runs : (at : ℕ) → 18 ≤ at → word (stateWords s) at ≡ word (map runBits (s .plan .runs) ++ (s .panel ++ lastWords s)) (at - 18)
+  from-runs at low =
+      let less : at - 2 - 16 ≡ at - 18 = omega arith in
+      past two (s .plan .starts ++ (map runBits (s .plan .runs) ++ (s .panel ++ lastWords s))) 2 at 0 refl (omega arith)
+      ∙ past (s .plan .starts) (map runBits (s .plan .runs) ++ (s .panel ++ lastWords s)) mostLegs (at - 2) 0 (z .starts) (omega arith)
+      ∙ ap (word (map runBits (s .plan .runs) ++ (s .panel ++ lastWords s))) less
+
+  pub run-word : (at : ℕ) → 18 ≤ at → at < 34 → word (stateWords s) at ≡ runBits (getD (s .plan .runs) (at - 18) (pos 0))
+  run-word at low high =
+      from-runs at low
+      ∙ inside (map runBits (s .plan .runs)) (s .panel ++ lastWords s) mostLegs (at - 18) 0 bits-length (omega arith)
+      ∙ List·getD-map runBits (s .plan .runs) (at - 18) (pos 0)
+
+  -- from place 34 on
+  from-panel : (at : ℕ) → 34 ≤ at → word (stateWords s) at ≡ word (s .panel ++ lastWords s) (at - 34)
+  from-panel at low =
+      let less : at - 18 - 16 ≡ at - 34 = omega arith in
+      from-runs at (omega arith)
+      ∙ past (map runBits (s .plan .runs)) (s .panel ++ lastWords s) mostLegs (at - 18) 0 bits-length (omega arith)
+      ∙ ap (word (s .panel ++ lastWords s)) less
+
+  pub panel-word : (at : ℕ) → 34 ≤ at → at < 54 → word (stateWords s) at ≡ word (s .panel) (at - 34)
+  panel-word at low high = from-panel at low ∙ inside (s .panel) (lastWords s) mostPorts (at - 34) 0 (z .panel) (omega arith)
+
+  pub last-word : (at : ℕ) → 54 ≤ at → word (stateWords s) at ≡ word (lastWords s) (at - 54)
+  last-word at low =
+      let less : at - 34 - 20 ≡ at - 54 = omega arith in
+      from-panel at (omega arith) ∙ past (s .panel) (lastWords s) mostPorts (at - 34) 0 (z .panel) (omega arith) ∙ ap (word (lastWords s)) less
+
+-- ---- the fields of words
+
+-- the state that the code makes of its parts
+pub state-of : (ws : List ℕ) {starts : List ℕ} {runs : List ℤ} {panel : List ℕ}
+    → starts ≡ wordsAt ws 2 mostLegs → runs ≡ map runIn (wordsAt ws 18 mostLegs) → panel ≡ wordsAt ws 34 mostPorts
+    → record {
+      plan = record { ports = word ws 0; legs = word ws 1; starts = starts; runs = runs };
+      panel = panel;
+      leg = word ws 54;
+      step = word ws 55;
+      covered = word ws 56;
+      opened = word ws 57;
+      errors = word ws 58;
+      standing = eqb (word ws 59) 1;
+      ended = eqb (word ws 60) 1;
+    } ≡ stateAt ws
+state-of ws a b c = λ i. record {
+  plan = record { ports = word ws 0; legs = word ws 1; starts = a i; runs = b i };
+  panel = c i;
+  leg = word ws 54;
+  step = word ws 55;
+  covered = word ws 56;
+  opened = word ws 57;
+  errors = word ws 58;
+  standing = eqb (word ws 59) 1;
+  ended = eqb (word ws 60) 1;
+}
+
+-- ---- words within the limits
+
+module _ (ws : List ℕ) (e : within ws limits ≡ true) where
+  -- they fit their fields
+  pub words-fit : WordsFit ws
+  words-fit = record {
+    many = within-length ws limits e;
+    ports = within-at ws limits e 0 (omega arith);
+    legs = within-at ws limits e 1 (omega arith);
+    panel = λ i h.
+        let a = within-at ws limits e (34 + i) (omega arith) in
+        omega (arith, run-at (take 34 limits) (drop 55 limits) 34 21 largest8 (34 + i) refl (omega arith) (omega arith));
+    leg = within-at ws limits e 54 (omega arith);
+    errors = within-at ws limits e 58 (omega arith);
+  }
+
+  -- the state that they are
+  pub is-state : (s : State) → s ≡ stateAt ws → some s ≡ stateIn ws
+  unfolding stateIn
+  is-state s f = ap some f ∙ rw e refl
+
+-- any other words are none
+pub no-state : (ws : List ℕ) → within ws limits ≡ false → none ≡ stateIn ws
+unfolding stateIn
+no-state ws e = rw e refl
+
+-- ---- a bit
+
+-- the byte that the code has of a bool is its bit
+pub byte-bit : (b : Bool) → boolByte b ≡ bit b
+byte-bit true = refl
+byte-bit false = refl
+
+-- ---- what the code has of words
+
+module _ (h : Held) {o : Option State} (e : heldIs h ≡ o) where
+  -- a state that fits is the one that they are
+  pub held-state : h .fit ≡ true → some (h .state) ≡ o
+  held-state t = ap (λ b. cond b (some (h .state)) none) (sym t) ∙ e
+
+  -- else they are none
+  pub held-none : h .fit ≡ false → none ≡ o
+  held-none t = ap (λ b. cond b (some (h .state)) none) (sym t) ∙ e
+
+-- words that are a state are 61
+pub state-length : (ws : List ℕ) {s : State} → some s ≡ stateIn ws → length ws ≡ stateCount
+state-length ws e =
+    either (test (within ws limits))
+    (λ t. within-length ws limits t)
+    (λ t. absurd (none-some _ (no-state ws t ∙ sym e)))

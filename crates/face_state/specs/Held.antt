@@ -1,0 +1,26 @@
+-- What the code answers of words that are to be a state, and what its pieces ask of them.
+-- Assumes nothing.
+use Prim.Native.Nat.{ℕ, _+_, _≤_, _<_}
+use mathlib.Core.Path.{_≡_}
+use mathlib.Core.Bool.{cond}
+use mathlib.Core.List.{List}
+use mathlib.Core.Option.{Option, none, some}
+use lib.ListN.{length}
+use Rattle.listing.specs.Limits.{mostPorts}
+use Rattle.campaign_state.specs.declared.State.{State}
+use Rattle.face_values.specs.Lines.{largest8}
+use Rattle.face_state.specs.States.{stateCount, largest32, word}
+use Rattle.face_state.specs.declared.Held.{Held}
+
+-- the state, if the words are one
+abbrev pub heldIs : Held → Option State
+heldIs h = cond (h .fit) (some (h .state)) none
+
+-- as many words as a state has, and in each that goes into a smaller field a number that this holds
+pub record WordsFit (ws : List ℕ) : Type 0 where
+  pub many : length ws ≡ stateCount
+  pub ports : word ws 0 ≤ largest8
+  pub legs : word ws 1 ≤ largest8
+  pub panel : (i : ℕ) → i < mostPorts → word ws (34 + i) ≤ largest8
+  pub leg : word ws 54 ≤ largest8
+  pub errors : word ws 58 ≤ largest32

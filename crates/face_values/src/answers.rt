@@ -1,0 +1,29 @@
+// The number and the five words that a call answers.
+use words::refusals::place_number;
+use words::refusals::reason_number;
+use words::Refusal;
+ghost use mathlib.Core.Path.{_≡_};
+ghost use mathlib.Core.List.{[], _∷_};
+ghost use Rattle.words.specs.Told.{spotNumber};
+ghost use Rattle.words.specs.Meaning.{numberOf, spotOf};
+ghost use Rattle.face_values.specs.Answers.{five};
+
+// The five words of an accepted call, whose number is 0.
+pub fn give(answer: &mut [u64; 5], a: u64, b: u64, c: u64, d: u64, e: u64) -> u8
+    ensures number { λ r. ⌜ r ≡ 0 ⌝ }
+    ensures words { λ _. ⌜ now (answer .exit) ≡ a ∷ b ∷ c ∷ d ∷ e ∷ [] ⌝ }
+{
+    *answer = [a, b, c, d, e];
+    0
+}
+
+// A refused call: its place in the answer, and its number.
+pub fn refuse(f: Refusal, answer: &mut [u64; 5]) -> u8
+    ensures number { λ r. ⌜ r ≡ numberOf (f .reason) ⌝ }
+    ensures words { λ _. ⌜ now (answer .exit) ≡ five (spotNumber (spotOf (f .place)) ∷ []) ⌝ }
+{
+    let place = f.place;
+    let reason = f.reason;
+    give(answer, place_number(place) as u64, 0, 0, 0, 0);
+    reason_number(reason)
+}

@@ -1,4 +1,0 @@
-pub mod Held
-pub mod Marks
-pub mod Rules
-pub mod Runs

@@ -1,0 +1,98 @@
+// The check of a pattern or a panel: the first jack at fault decides.
+use crate::answers::Fault;
+use words::Jack;
+use words::Outcome;
+use words::Place;
+use words::Reason;
+use words::Refusal;
+use words::refusals::nowhere;
+ghost use mathlib.Core.Path.{_≡_};
+ghost use mathlib.Core.Bool.{true, false};
+ghost use Prim.Native.Nat.{_≤_};
+ghost use lib.ListN.{length};
+ghost use Rattle.words.specs.Meaning.{outcomeTold};
+ghost use Rattle.listing.specs.Limits.{mostPorts};
+ghost use Rattle.pattern_check.specs.Faults.{faultOf};
+ghost use Rattle.pattern_check.specs.Calls.{checkAs};
+ghost use Rattle.pattern_check.specs.Answers.{faultIs};
+
+// The first fault of p: as a pattern, or as a panel, where a port may stand at its own jack.
+pub fn fault(p: &[u8], pattern: bool) -> Fault
+    requires { ⌜ length (now p) ≤ mostPorts ⌝ }
+    ensures { λ r. ⌜ faultIs r ≡ faultOf pattern (now (p .entry)) ⌝ }
+{
+    let n = p.len();
+    let mut found = Fault::Sound;
+    let mut at: usize = 0;
+    'jacks: while at < n {
+        let next = at + 1;
+        let jack = Jack(next as u8);
+        let port = p[at] as usize;
+        if port < 1 {
+            found = Fault::Outside(jack);
+            break 'jacks;
+        }
+        if n < port {
+            found = Fault::Outside(jack);
+            break 'jacks;
+        }
+        let mut k: usize = 0;
+        while k < at {
+            if p[k] == p[at] {
+                found = Fault::Repeated(jack, Jack((k + 1) as u8));
+                break 'jacks;
+            }
+            k += 1;
+        }
+        if pattern {
+            if port == next {
+                found = Fault::OwnJack(jack);
+                break 'jacks;
+            }
+        }
+        at = next;
+    }
+    found
+}
+
+// Whether p is a pattern, or else a panel, of 2 to 20 ports.
+fn check_as(p: &[u8], pattern: bool) -> Outcome
+    ensures { λ r. ⌜ outcomeTold r ≡ checkAs pattern mostPorts (now (p .entry)) ⌝ }
+{
+    let n = p.len();
+    if n < 2 {
+        return Outcome::Refused(nowhere(Reason::Ports));
+    }
+    if 20 < n {
+        return Outcome::Refused(nowhere(Reason::Ports));
+    }
+    match fault(p, pattern) {
+        Fault::Sound => Outcome::Accepted,
+        Fault::Outside(j) => Outcome::Refused(Refusal {
+            reason: Reason::Outside,
+            place: Place::AtJack(j),
+        }),
+        Fault::Repeated(j, _) => Outcome::Refused(Refusal {
+            reason: Reason::Repeated,
+            place: Place::AtJack(j),
+        }),
+        Fault::OwnJack(j) => Outcome::Refused(Refusal {
+            reason: Reason::OwnJack,
+            place: Place::AtJack(j),
+        }),
+    }
+}
+
+// Whether p is a pattern of 2 to 20 ports.
+pub fn check(p: &[u8]) -> Outcome
+    ensures { λ r. ⌜ outcomeTold r ≡ checkAs true mostPorts (now (p .entry)) ⌝ }
+{
+    check_as(p, true)
+}
+
+// Whether p is a panel of 2 to 20 ports: a permutation, in which a port may stand at its own jack.
+pub fn check_panel(p: &[u8]) -> Outcome
+    ensures { λ r. ⌜ outcomeTold r ≡ checkAs false mostPorts (now (p .entry)) ⌝ }
+{
+    check_as(p, false)
+}

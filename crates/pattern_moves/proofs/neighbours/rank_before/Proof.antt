@@ -1,0 +1,19 @@
+-- `pattern_moves::neighbours::rank_before` meets its contract: before the first rank comes the last, and before any other the one before.
+-- Assumes nothing.
+use native.Mathlib.Omega.{arith}
+use borrow.Author.Needs.{needs}
+use Rattle.pattern_moves.proofs.Ranks.{before-first, before-other}
+use Rattle.pattern_moves.proofs.neighbours.rank_before.Statement.{statement}
+use Rattle.pattern_moves.proofs.neighbours.rank_before.Tie as tie
+
+sub-result : tie.Need-sub-result
+sub-result c = omega arith
+
+returns : tie.Need-returns
+returns c = rw (c .count-of .ensures) (before-first _ _ (c .before .if1 .taken))
+
+returns-2 : tie.Need-returns-2
+returns-2 c = before-other _ _ (c .if1 .left)
+
+pub rank-before-spec : {M : Type 1} → statement M
+rank-before-spec = tie.close (tie.spec (λ c κs. search needs) sub-result returns (λ c. search needs) returns-2)

@@ -1,0 +1,133 @@
+-- One level of a pattern's place: the step that it came by, what is passed over, and that the place fits 64 bits.
+-- Assumes nothing.
+use mathlib.Core.Path.{_≡_, refl, sym, ap, _∙_}
+use mathlib.Core.Logic.{_≢_}
+use mathlib.Core.Bool.{Bool, true, false, not, cond, Bool·beq}
+use mathlib.Core.List.{List}
+use Prim.Native.Nat.{ℕ, zero, suc, _+_, _*_, _-_, _≤_, _<_}
+use native.Mathlib.Nat.{mul-le-mul-right}
+use native.Mathlib.Omega.{arith}
+use lib.ListN.{take}
+use borrow.Author.Tests.{eq-eqb, ne-eqb}
+use Rattle.listing.specs.Numbers.{Among, before}
+use Rattle.listing.specs.Pattern.{entry, Derangement}
+use Rattle.listing.specs.Count.{count}
+use Rattle.listing.specs.Steps.{Way, byA, byB, shorter, back, way}
+use Rattle.listing.specs.Rank.{perBlock, turned, rank}
+use Rattle.listing.specs.Reading.{other, comesFirst, passed}
+use Rattle.listing.specs.Limits.{mostPorts, largest64}
+use Rattle.listing.proofs.Counts.{count-blocks}
+use Rattle.listing.proofs.Shorter.{end-fits, way-back}
+use Rattle.listing.proofs.Places.{turned-below}
+use Rattle.listing.proofs.Ranks.{rank-below}
+use Rattle.listing.proofs.Reading.{rank-read}
+use Rattle.listing.proofs.Limits.{count-most}
+use Rattle.pattern_ranks.specs.Levels.{cameOf, wayOf, endOf, LevelOf}
+use Rattle.pattern_ranks.specs.declared.types.Level.{Level}
+use Rattle.pattern_ranks.specs.declared.types.Came.{Came}
+use Rattle.pattern_ranks.specs.declared.types.Came.the-variants.{ByA, ByB}
+use Rattle.pattern_ranks.proofs.Origins.{two-ports}
+
+-- ---- the step that a pattern came by
+
+-- by B if jack i holds n
+pub came-B : {n i x : ℕ} (p : List ℕ) → i ≡ entry p n → x ≡ entry p i → x ≡ n → ByB i ≡ cameOf (way n p) (entry p n)
+unfolding way
+came-B {n = n} {x = x} p e f h = rw (← e, ← f, eq-eqb x n h)
+
+-- else by A
+pub came-A : {n i x : ℕ} (p : List ℕ) → i ≡ entry p n → x ≡ entry p i → x ≢ n → ByA i ≡ cameOf (way n p) (entry p n)
+unfolding way
+came-A {n = n} {x = x} p e f h = rw (← e, ← f, ne-eqb x n h)
+
+-- which step it was, and the entry at the last jack
+as-came : (c : Came) (w : Way) (i : ℕ) → c ≡ cameOf w i → (w ≡ wayOf c) × (i ≡ endOf c)
+as-came c byA i e = rw e (refl, refl)
+as-came c byB i e = rw e (refl, refl)
+
+-- a pattern with a port has two
+pub two-jacks : {n : ℕ} {p : List ℕ} → n ≢ 0 → Derangement n p → 2 ≤ n
+two-jacks {n = n} {p = p} h D = two-ports h (rank-below n p D)
+
+-- the entry at the last jack is 1 to n - 1
+pub end-among : {n : ℕ} {p : List ℕ} {c : Came} → 2 ≤ n → Derangement n p → c ≡ cameOf (way n p) (entry p n) → Among (n - 1) (endOf c)
+end-among {n = zero} h D e = absurd (omega arith)
+end-among {n = suc zero} h D e = absurd (omega arith)
+end-among {n = suc (suc m)} {p = p} {c = c} h D e = rw (← as-came c (way (suc (suc m)) p) (entry p (suc (suc m))) e .1) (omega (arith, end-fits m p D))
+
+-- ---- the first part of a block
+
+-- by A where i is odd and the list is read forward, or neither; by B where one of the two
+pub sides : (b forward : Bool) → (Bool·beq b forward ≡ cond forward b (not b)) × (not (Bool·beq b forward) ≡ cond forward (not b) b)
+sides true true = (refl, refl)
+sides true false = (refl, refl)
+sides false true = (refl, refl)
+sides false false = (refl, refl)
+
+-- ---- what is passed over
+
+-- k whole blocks and one more are in the list
+blocks-inside : (n k : ℕ) → 2 ≤ n → k < n - 1 → k * perBlock n + perBlock n ≤ count n
+blocks-inside zero k h l = absurd (omega arith)
+blocks-inside (suc zero) k h l = absurd (omega arith)
+blocks-inside (suc (suc m)) k h l =
+    let room : suc k * perBlock (suc (suc m)) ≤ suc m * perBlock (suc (suc m)) = mul-le-mul-right (perBlock (suc (suc m))) (omega arith) in
+    rw (count-blocks m) (omega arith)
+
+-- fewer than n - 1 blocks come before block i, forward or backward
+before-fewer : (forward : Bool) (n i : ℕ) → Among (n - 1) i → cond forward (before i) (n - suc i) < n - 1
+before-fewer true n zero h = absurd (omega arith)
+before-fewer true n (suc i) h = omega arith
+before-fewer false n i h = omega arith
+
+-- a part of a block is no longer than the block
+part-inside : (first : Bool) (w : Way) (n : ℕ) → cond first 0 (count (shorter (other w) n)) ≤ perBlock n
+part-inside true w n = omega arith
+part-inside false byA n = omega arith
+part-inside false byB n = omega arith
+
+-- what is passed over is no more than the list
+pub passed-inside : (forward : Bool) (w : Way) {n i k size part : ℕ} → 2 ≤ n → Among (n - 1) i → k ≡ cond forward (before i) (n - suc i)
+    → size ≡ perBlock n → part ≡ cond (comesFirst forward w i) 0 (count (shorter (other w) n)) → k * size + part ≤ count n
+passed-inside forward w {n = n} {i = i} h fits ek es ep =
+    rw (ek, es)
+    (omega (arith, blocks-inside n (cond forward (before i) (n - suc i)) h (before-fewer forward n i fits), part-inside (comesFirst forward w i) w n))
+
+-- ---- the place
+
+-- the shorter pattern has fewer ports
+shorter-fewer : (w : Way) (m : ℕ) → shorter w (suc (suc m)) < suc (suc m)
+shorter-fewer byA m = omega arith
+shorter-fewer byB m = omega arith
+
+-- the place is what is passed over and the place of the shorter pattern, in its list read forward or backward
+pub place-level : (forward : Bool) {first : Bool} {n x : ℕ} {p : List ℕ} {c : Came} (k : ℕ) (t : List ℕ) → 2 ≤ n → Derangement n p
+    → c ≡ cameOf (way n p) (entry p n) → x ≡ passed forward (wayOf c) n (endOf c) → first ≡ comesFirst forward (wayOf c) (endOf c)
+    → k ≡ shorter (wayOf c) n → t ≡ back (wayOf c) n p
+    → (k < n) × Derangement k t × (turned forward (count n) (rank n p) ≡ x + turned first (count k) (rank k t))
+place-level forward {n = zero} k t h D e ex ef ek et = absurd (omega arith)
+place-level forward {n = suc zero} k t h D e ex ef ek et = absurd (omega arith)
+place-level forward {n = suc (suc m)} {p = p} {c = c} k t h D e ex ef ek et =
+    let n = suc (suc m) in
+    let a = as-came c (way n p) (entry p n) e in
+    rw (ex, ef, ek, et, ← a .0, ← a .1)
+    (shorter-fewer (way n p) m, way-back m p D .0, rank-read forward m p (way n p) D refl)
+
+-- the pattern with no ports has place 0
+pub place-none : (forward : Bool) (n : ℕ) (p : List ℕ) → n ≡ 0 → 0 ≡ turned forward (count n) (rank n p)
+unfolding count rank
+place-none true n p e = rw e
+place-none false n p e = rw e
+
+-- with the place x of the shorter pattern, the sum is the place
+module _ {forward b : Bool} {n x : ℕ} {p : List ℕ} {l : Level} (here : LevelOf forward n p l) (e : l .forward ≡ b)
+    (ex : x ≡ turned b (count (l .ports)) (rank (l .ports) (take (l .ports) (l .pattern)))) where
+  pub level-sum : l .passed + x ≡ turned forward (count n) (rank n p)
+  level-sum =
+      let k = count (l .ports) in
+      let r = rank (l .ports) (take (l .ports) (l .pattern)) in
+      ap (λ (y : ℕ). l .passed + y) (ex ∙ ap (λ (side : Bool). turned side k r) (sym e)) ∙ sym (here .place)
+
+  -- and fits 64 bits
+  pub level-fits : n ≤ mostPorts → Derangement n p → l .passed + x ≤ largest64
+  level-fits h D = omega (arith, level-sum, turned-below forward (count n) (rank n p) (rank-below n p D), count-most n h)

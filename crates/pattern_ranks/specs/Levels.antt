@@ -1,0 +1,51 @@
+-- One level of the list: from a rank to the step and the shorter rank, and from a pattern to the step and what is passed over.
+-- Assumes nothing.
+use Prim.Native.Nat.{ℕ, suc, _+_, _-_, _/_, _%_, _<_}
+use mathlib.Core.Path.{_≡_}
+use mathlib.Core.Bool.{Bool, cond}
+use mathlib.Core.List.{List}
+use lib.Dec.{ltb}
+use lib.ListN.{take}
+use Rattle.listing.specs.Numbers.{before, odd}
+use Rattle.listing.specs.Pattern.{Derangement}
+use Rattle.listing.specs.Count.{count}
+use Rattle.listing.specs.Steps.{Way, byA, byB}
+use Rattle.listing.specs.Rank.{fromEnd, perBlock, turned, rank}
+use Rattle.pattern_ranks.specs.declared.types.Origin.{Origin}
+use Rattle.pattern_ranks.specs.declared.types.Origin.the-variants.{ByA, ByB}
+use Rattle.pattern_ranks.specs.declared.types.Came.{Came}
+use Rattle.pattern_ranks.specs.declared.types.Came.the-variants.{ByA as Came-ByA, ByB as Came-ByB}
+use Rattle.pattern_ranks.specs.declared.types.Level.{Level}
+
+-- place u of block i, read as an odd one: first the patterns by A in the list's order, then those by B in the reversed
+abbrev pub originIn : ℕ → ℕ → ℕ → Origin
+originIn n i u = cond (ltb u (count (before n))) (ByA i u) (ByB i (fromEnd (count (before (before n))) (u - count (before n))))
+
+-- the step that makes the pattern of rank r, and the rank of the shorter one, as `unrank` has them (the paper, 'The list')
+unfoldable pub originOf : ℕ → ℕ → Origin
+originOf n r =
+    let i = suc (r / perBlock n) in
+    originIn n i (turned (odd i) (perBlock n) (r % perBlock n))
+
+-- the step that a pattern came by: the way, and the entry at its last jack
+abbrev pub cameOf : Way → ℕ → Came
+cameOf byA i = Came-ByA i
+cameOf byB i = Came-ByB i
+
+-- the way of a step
+abbrev pub wayOf : Came → Way
+wayOf (Came-ByA i) = byA
+wayOf (Came-ByB i) = byB
+
+-- the entry at the last jack, which is the number of the block
+abbrev pub endOf : Came → ℕ
+endOf (Came-ByA i) = i
+endOf (Came-ByB i) = i
+
+-- one level of the place of p in the list, read forward or backward ('by turns', the paper, 'The list'): a pattern with fewer ports, and the place of p
+-- is what is passed over and the place of that pattern in its list, read forward or backward
+pub record LevelOf (forward : Bool) (n : ℕ) (p : List ℕ) (l : Level) : Type 0 where
+  pub fewer : l .ports < n
+  pub pattern : Derangement (l .ports) (take (l .ports) (l .pattern))
+  pub place : turned forward (count n) (rank n p)
+      ≡ l .passed + turned (l .forward) (count (l .ports)) (rank (l .ports) (take (l .ports) (l .pattern)))

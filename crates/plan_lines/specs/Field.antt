@@ -1,0 +1,57 @@
+-- One line of key=value (the paper, 'Plans'): its text, and how it is read, in the paper's order: 'newline present (11), key with its = (7), number (8),
+-- value'. Which values are good, the refusal of any other, the largest number of the device and the line's number are parameters.
+-- Assumes nothing.
+use Prim.Native.Nat.{ℕ}
+use mathlib.Core.Bool.{Bool, cond, _&&_}
+use mathlib.Core.List.{List, [], _∷_, _++_}
+use mathlib.Core.Option.{Option}
+use lib.Dec.{leb, ltb}
+use Rattle.words.specs.Told.{Told, accepted, refused, atLine, then, need}
+use Rattle.text_keys.specs.Parts.{newline, Parts, cut, after}
+use Rattle.text_numbers.specs.Decimal.{numberUpTo}
+use Rattle.text_numbers.specs.Signed.{Signed, magnitude, signedUpTo}
+
+-- a line: its key, its value, and one newline byte
+abbrev pub fieldText : List ℕ → List ℕ → List ℕ
+fieldText key value = (key ++ value) ++ (newline ∷ [])
+
+-- what has to pass a test; if it does not, refusal k at the line
+abbrev pub passed : {A : Type 0} → ℕ → ℕ → Bool → A → Told A
+passed k line test a = cond test (accepted a) (refused k (atLine line))
+
+-- a line at the front of a text: the text of its value, and the text after it. 'newline present (11), key with its = (7)'
+unfoldable pub lineIn : List ℕ → ℕ → List ℕ → Told Parts
+lineIn key line t =
+    then (need 11 (atLine line) (cut newline t)) (λ p. then (need 7 (atLine line) (after key (p .front))) (λ v. accepted (record { front = v; rest = p .rest })))
+
+-- whether a number is one from low on and below `below`
+unfoldable pub between : ℕ → ℕ → ℕ → Bool
+between low below n = leb low n && ltb n below
+
+-- a kind of line: its key, the number that a text is, its magnitude, which magnitudes are good, and the refusal of any other
+pub record Field (A : Type 0) : Type 0 where
+  pub key : List ℕ
+  pub number : List ℕ → Option A
+  pub size : A → ℕ
+  pub low : ℕ
+  pub below : ℕ
+  pub refusal : ℕ
+
+-- what was read, and the text after it
+pub record Got (A : Type 0) : Type 0 where
+  pub value : A
+  pub rest : List ℕ
+
+-- a line of a kind at the front of a text: 11, 7, then 'number (8), value'
+unfoldable pub fieldIn : {A : Type 0} → Field A → ℕ → List ℕ → Told (Got A)
+fieldIn f line t =
+    then (lineIn (f .key) line t)
+    (λ p. then (need 8 (atLine line) (f .number (p .front)))
+    (λ a. passed (f .refusal) line (between (f .low) (f .below) (f .size a)) (record { value = a; rest = p .rest })))
+
+-- a line with a number, and a line with a signed number
+abbrev pub unsigned : ℕ → List ℕ → ℕ → ℕ → ℕ → Field ℕ
+unsigned largest key low below k = record { key = key; number = numberUpTo largest; size = λ n. n; low = low; below = below; refusal = k }
+
+abbrev pub signed : ℕ → List ℕ → ℕ → ℕ → ℕ → Field Signed
+signed largest key low below k = record { key = key; number = signedUpTo largest; size = magnitude; low = low; below = below; refusal = k }

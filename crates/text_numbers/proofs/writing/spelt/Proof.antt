@@ -1,0 +1,104 @@
+-- `text_numbers::writing::spelt` sets the digits of n from the last to the first. The digits of the rest have still to be set: put over the front of the array
+-- they always make the digits of n and then zeros.
+use mathlib.Core.Path.{_≡_, _∙_}
+use mathlib.Core.List.{_++_}
+use Prim.Native.Nat.{ℕ, _+_, _-_, _≤_}
+use native.Mathlib.Omega.{arith}
+use lib.ListN.{length, replicate, length-replicate}
+use borrow.Author.Needs.{needs}
+use Rattle.text_numbers.specs.Decimal.{digitsOf}
+use Rattle.text_numbers.proofs.Digits.{fewer-tens}
+use Rattle.text_numbers.proofs.Lengths.{length-more, length-some, digits-64}
+use Rattle.text_numbers.proofs.Texts.{overFront, digit-set, first-set, over-zeros}
+use Rattle.text_numbers.proofs.writing.spelt.Statement.{statement}
+use Rattle.text_numbers.proofs.writing.spelt.Tie as tie
+
+-- the places from `place` on have the digits of the rest, which are still to be set
+abbrev Inv-loop : tie.InvT-loop
+Inv-loop n k bytes₀ place₀ rest₀ bytes place rest =
+    (1 ≤ place)
+    × (k ≤ 20)
+    × (place + length (digitsOf rest) ≡ k + 1)
+    × (length bytes ≡ 20)
+    × (overFront rest bytes ≡ digitsOf n ++ replicate (20 - k) 0)
+
+abbrev μ-loop : tie.MeasureT-loop
+μ-loop n k bytes₀ place₀ rest₀ bytes place rest = rest
+
+loop-holds : tie.Need-loop-holds Inv-loop μ-loop
+loop-holds c = (
+  search needs,
+  omega (arith, digits-64 (c .args .n) (search needs)),
+  omega arith,
+  length-replicate {A = ℕ} 20 0,
+  over-zeros (c .args .n) (c .args .k) (c .pre),
+)
+
+cast-bytes : tie.Need-cast-bytes Inv-loop μ-loop
+cast-bytes c = search needs
+
+add-bytes : tie.Need-add-bytes Inv-loop μ-loop
+add-bytes c = search needs
+
+sub-bytes : tie.Need-sub-bytes Inv-loop μ-loop
+sub-bytes c = omega (arith, length-some (c .before .loop .rest))
+
+array-write-bytes : tie.Need-array-write-bytes Inv-loop μ-loop
+array-write-bytes c = omega (arith, length-some (c .before .loop .rest))
+
+add-place : tie.Need-add-place Inv-loop μ-loop
+add-place c = search needs
+
+loop-less : tie.Need-loop-less Inv-loop μ-loop
+loop-less c = fewer-tens _ (c .loop-test .taken)
+
+loop-again : tie.Need-loop-again Inv-loop μ-loop
+loop-again c =
+    let l = c .before .loop in
+    let k = c .before .before .args .k in
+    let some : 1 ≤ length (digitsOf (l .rest)) = length-some (l .rest) in (
+      search needs,
+      l .inv .1,
+      omega (arith, length-more (l .rest) (c .loop-test .taken)),
+      search needs,
+      digit-set (l .rest) (l .bytes) (k - l .place) (c .loop-test .taken) (omega arith) (omega arith) ∙ l .inv .4,
+    )
+
+cast-bytes-2 : tie.Need-cast-bytes-2 Inv-loop μ-loop
+cast-bytes-2 c = search needs
+
+add-bytes-2 : tie.Need-add-bytes-2 Inv-loop μ-loop
+add-bytes-2 c = search needs
+
+sub-bytes-2 : tie.Need-sub-bytes-2 Inv-loop μ-loop
+sub-bytes-2 c = omega (arith, length-some (c .before .loop .rest))
+
+array-write-bytes-2 : tie.Need-array-write-bytes-2 Inv-loop μ-loop
+array-write-bytes-2 c = omega (arith, length-some (c .before .loop .rest))
+
+returns : tie.Need-returns Inv-loop μ-loop
+returns c =
+    let l = c .before .loop in
+    let k = c .before .before .args .k in
+    let some : 1 ≤ length (digitsOf (l .rest)) = length-some (l .rest) in
+    first-set (l .rest) (l .bytes) (k - l .place) (c .loop-test .left) (omega arith) (omega arith) ∙ l .inv .4
+
+pub spelt-spec : {M : Type 1} → statement M
+spelt-spec =
+    tie.close
+    (tie.spec
+    Inv-loop
+    μ-loop
+    loop-holds
+    cast-bytes
+    add-bytes
+    sub-bytes
+    array-write-bytes
+    add-place
+    loop-less
+    loop-again
+    cast-bytes-2
+    add-bytes-2
+    sub-bytes-2
+    array-write-bytes-2
+    returns)

@@ -1,0 +1,48 @@
+-- Signed numbers as text (the paper, 'Plans': '`-` only before a non-zero run; 64 bits unsigned for the magnitude').
+-- Assumes nothing.
+use Prim.Native.Nat.{ℕ, zero, suc, _≤_}
+use mathlib.Core.Bool.{cond}
+use mathlib.Core.List.{List, [], _∷_}
+use mathlib.Core.Option.{Option, none, some}
+use lib.Dec.{eqb}
+use Rattle.text_numbers.specs.Decimal.{digitsOf, numberUpTo}
+
+-- a way and a magnitude: ahead, or behind
+pub data Signed : Type 0 where
+  ahead : ℕ → Signed
+  behind : ℕ → Signed
+
+-- the magnitude
+abbrev pub magnitude : Signed → ℕ
+magnitude (ahead n) = n
+magnitude (behind n) = n
+
+-- nothing is behind by 0
+abbrev pub Proper : Signed → Type 0
+Proper (ahead n) = Unit {0}
+Proper (behind n) = 1 ≤ n
+
+-- the byte `-`
+abbrev pub minus : ℕ
+minus = 45
+
+-- the text of a signed number: its magnitude, with `-` before one that is behind
+abbrev pub signedDigits : Signed → List ℕ
+signedDigits (ahead n) = digitsOf n
+signedDigits (behind n) = minus ∷ digitsOf n
+
+-- what a magnitude says without `-` before it
+abbrev pub plain : Option ℕ → Option Signed
+plain none = none
+plain (some n) = some (ahead n)
+
+-- what it says with `-` before it: '`-` only before a non-zero run'
+abbrev pub negative : Option ℕ → Option Signed
+negative none = none
+negative (some zero) = none
+negative (some (suc n)) = some (behind (suc n))
+
+-- the signed number that a text is, its magnitude up to `most`
+unfoldable pub signedUpTo : ℕ → List ℕ → Option Signed
+signedUpTo most [] = none
+signedUpTo most (b ∷ t) = cond (eqb b minus) (negative (numberUpTo most t)) (plain (numberUpTo most (b ∷ t)))

@@ -1,0 +1,49 @@
+// Numbers written as text.
+use crate::Text;
+ghost use mathlib.Core.Path.{_≡_};
+ghost use mathlib.Core.List.{_++_};
+ghost use Prim.Native.Nat.{_-_};
+ghost use lib.ListN.{length, replicate};
+ghost use Rattle.text_numbers.specs.Decimal.{digitsOf};
+ghost use Rattle.text_numbers.specs.Answers.{TextOf};
+
+// How many digits n has.
+pub fn places(n: u64) -> usize
+    ensures { λ r. ⌜ r ≡ length (digitsOf n) ⌝ }
+{
+    let mut k: usize = 1;
+    let mut rest = n;
+    while 10 <= rest {
+        rest /= 10;
+        k += 1;
+    }
+    k
+}
+
+// The digits of n, k of them, at the front of an array of zeros. They are set from the last to the first: place 1 is the last.
+fn spelt(n: u64, k: usize) -> [u8; 20]
+    requires { ⌜ k ≡ length (digitsOf n) ⌝ }
+    ensures { λ r. ⌜ r ≡ digitsOf n ++ replicate (20 - k) 0 ⌝ }
+{
+    let mut bytes = [0u8; 20];
+    let mut place: usize = 1;
+    let mut rest = n;
+    while 10 <= rest {
+        bytes[k - place] = 48 + (rest % 10) as u8;
+        place += 1;
+        rest /= 10;
+    }
+    bytes[k - place] = 48 + rest as u8;
+    bytes
+}
+
+// The text of n.
+pub fn digits(n: u64) -> Text
+    ensures { λ r. ⌜ TextOf n r ⌝ }
+{
+    let k = places(n);
+    Text {
+        bytes: spelt(n, k),
+        len: k,
+    }
+}
