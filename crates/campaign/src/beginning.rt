@@ -1,7 +1,7 @@
 // The beginning of a campaign: a plan's text to its first state.
-use campaign_state::State;
 use crate::Begun;
 use crate::Campaign;
+use campaign_state::State;
 use plans::Plan;
 use plans::reading::read_plan;
 ghost use mathlib.Core.Path.{_≡_};

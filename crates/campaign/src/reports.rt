@@ -1,9 +1,9 @@
 // Reports on the standing mark.
+use crate::Campaign;
+use crate::Reported;
 use campaign_state::State;
 use campaign_state::judging::Stance;
 use campaign_state::judging::judge;
-use crate::Campaign;
-use crate::Reported;
 use plan_rules::leg_at;
 use words::Outcome;
 use words::Reason;

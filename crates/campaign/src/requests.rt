@@ -1,13 +1,13 @@
 // Requests: the next movement order, the mark, or the end, with its line.
+use crate::Answer;
+use crate::Campaign;
+use crate::Requested;
 use campaign_state::State;
 use campaign_state::judging::Stance;
 use campaign_state::judging::closed_marks;
 use campaign_state::judging::judge;
 use campaign_way::along::rank_along;
 use campaign_way::panels::after_order;
-use crate::Answer;
-use crate::Campaign;
-use crate::Requested;
 use line_writer::answers::Written;
 use line_writer::order_lines::write_line;
 use plan_rules::leg_at;

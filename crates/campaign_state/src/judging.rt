@@ -1,9 +1,9 @@
 // Where a state stands. Every state that the type can hold is judged, and no sum wraps.
+use crate::State;
 use campaign_way::ToCome;
 use campaign_way::along::rank_along;
 use campaign_way::coming::coming;
 use campaign_way::panels::first_wrong;
-use crate::State;
 use pattern_ranks::unranking::pattern_of;
 use plan_rules::leg_at;
 use plan_rules::marks_before;

@@ -1,7 +1,7 @@
 // The cases of the paper's 'To run'.
-use campaign::Campaign;
-use crate::says::Told;
 use crate::says;
+use crate::says::Told;
+use campaign::Campaign;
 use pattern_check::checking::check;
 use patterns::counting::count;
 use words::Numbered;

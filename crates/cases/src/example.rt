@@ -1,6 +1,6 @@
 // The paper's example: its orders are printed, read back line by line and carried out on a panel; at each mark the panel has the pattern of the line's rank.
-use campaign::Campaign;
 use crate::says;
+use campaign::Campaign;
 use line_reader::answers::ReadLine;
 use line_reader::order_lines::read_line;
 use panel::lines::carry;

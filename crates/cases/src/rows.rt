@@ -1,6 +1,6 @@
 // Every row of a table: the pattern of its rank, the rank of its pattern, and the rows after and before it round the circuit.
-use check::same;
 use crate::says;
+use check::same;
 use patterns::neighbours::next;
 use patterns::neighbours::previous;
 use patterns::ranking::rank;

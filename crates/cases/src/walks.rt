@@ -1,6 +1,6 @@
 // Whole circuits walked from the first pattern, forward and backward: every pattern comes once, and the walk ends where it began.
-use check::same;
 use crate::says;
+use check::same;
 use patterns::neighbours::next;
 use patterns::neighbours::previous;
 use patterns::ranking::unrank;

@@ -1,7 +1,7 @@
 // The number and the five words that a call answers.
+use words::Refusal;
 use words::refusals::place_number;
 use words::refusals::reason_number;
-use words::Refusal;
 ghost use mathlib.Core.Path.{_≡_};
 ghost use mathlib.Core.List.{[], _∷_};
 ghost use Rattle.words.specs.Told.{spotNumber};

@@ -5,6 +5,8 @@ use words::Outcome;
 use words::Place;
 use words::Reason;
 use words::Refusal;
+use words::limits::LONGEST;
+use words::limits::SHORTEST;
 use words::refusals::nowhere;
 ghost use mathlib.Core.Path.{_≡_};
 ghost use mathlib.Core.Bool.{true, false};
@@ -60,10 +62,10 @@ fn check_as(p: &[u8], pattern: bool) -> Outcome
     ensures { λ r. ⌜ outcomeTold r ≡ checkAs pattern mostPorts (now (p .entry)) ⌝ }
 {
     let n = p.len();
-    if n < 2 {
+    if n < SHORTEST {
         return Outcome::Refused(nowhere(Reason::Ports));
     }
-    if 20 < n {
+    if LONGEST < n {
         return Outcome::Refused(nowhere(Reason::Ports));
     }
     match fault(p, pattern) {
