@@ -32,18 +32,17 @@ use Rattle.promise.specs.Demand.{Demanded, FullCircuit}
 use Rattle.promise.specs.Derangements.{derangements}
 use Rattle.promise.proofs.Marks.{closed-so}
 use Rattle.promise.proofs.Steps.{Does, closes, errs, refuses}
-use Rattle.plans.specs.Grammar.{Planned}
-use Rattle.plans.specs.Calls.{readPlanOf}
 use Rattle.campaign_state.specs.State.{answerLine, textOf, momentOf}
 use Rattle.campaign_state.specs.declared.State.{State}
-use Rattle.campaign.specs.Calls.{answerOf, leftOf, bytesOf, begunOf}
+use Rattle.campaign.specs.Calls.{answerOf, leftOf, bytesOf}
 use Rattle.campaign.proofs.Tells.{within-room}
-use Rattle.demands.specs.Code.{campaignOf, Called, asks, tells, turnsOf, leftAfter}
+use Rattle.campaign_reached.specs.Turns.{AcceptedPlan, campaignOf, begun, Called, asks, tells, turnsOf, leftAfter}
 use Rattle.demands.specs.Robot.{seen, obeyed, panelAfter, Obeys, Asked, RobotMeets, lineActs, seenActs, askedActs, robotActs}
-use Rattle.demands.proofs.Begun.{plan-fits}
-use Rattle.demands.proofs.Three.{begun-moment, demand-left, all-met}
-use Rattle.demands.proofs.Shown.{Shows, Shown, shows}
-use Rattle.demands.proofs.Reached.{Reached, reached-first, does-there, reached-left}
+use Rattle.campaign_reached.specs.Shown.{Shows, Shown}
+use Rattle.campaign_reached.proofs.Begun.{plan-fits, begun-moment}
+use Rattle.campaign_reached.proofs.Shown.{shows}
+use Rattle.campaign_reached.proofs.Reached.{Reached, reached-first, does-there, reached-left}
+use Rattle.demands.proofs.Three.{demand-left, all-met}
 
 -- ---- one line at the front of a buffer
 
@@ -116,66 +115,66 @@ report-leaves (refuses k n) = refl
 
 -- ---- any calls on an accepted plan
 
-module _ (t : List ℕ) (p : Planned) (e : readPlanOf t ≡ accepted p) where
+module _ (P : AcceptedPlan) where
   abbrev C : Setting
-  C = campaignOf p
+  C = campaignOf P
 
-  module _ (s : State) (R : Reached p s) (buf : List ℕ) where
+  module _ (s : State) (R : Reached P s) (buf : List ℕ) where
     -- the answer to the request
     a : Answer
     a = answerOf (request (length buf)) s
 
     -- the request is obeyed, and the robot's panel stays that of the state
-    obeyed-there : Asked (p .ports) (answerLine a) buf (bytesOf s buf) (momentOf s .panel)
+    obeyed-there : Asked (P .plan .ports) (answerLine a) buf (bytesOf s buf) (momentOf s .panel)
         × (panelAfter (answerLine a) (bytesOf s buf) (momentOf s .panel) ≡ momentOf (leftOf (request (length buf)) s) .panel)
     unfolding a bytesOf
     obeyed-there =
-        let f = plan-fits t p e in
-        let d = does-there t p e s R (request (length buf)) in
-        asked-so (p .ports) (f .fewPorts) (f .manyPorts) (answerLine a) buf (momentOf s .panel) (momentOf (leftOf (request (length buf)) s) .panel)
-        (within-room (length buf) s) (R .permutation) (shows t p e (R .fit) d)
+        let f = plan-fits P in
+        let d = does-there P s R (request (length buf)) in
+        asked-so (P .plan .ports) (f .fewPorts) (f .manyPorts) (answerLine a) buf (momentOf s .panel) (momentOf (leftOf (request (length buf)) s) .panel)
+        (within-room (length buf) s) (R .permutation) (shows P (R .fit) d)
 
   -- of every state that calls leave
-  meets-from : (cs : List Called) (s : State) → Reached p s → RobotMeets (p .ports) (momentOf s .panel) cs s
+  meets-from : (cs : List Called) (s : State) → Reached P s → RobotMeets (P .plan .ports) (momentOf s .panel) cs s
   unfolding RobotMeets a
   meets-from [] s R = tt
   meets-from (asks buf ∷ cs) s R =
       let o = obeyed-there s R buf in
-      let later = meets-from cs (leftOf (request (length buf)) s) (reached-left t p e s R (request (length buf))) in
-      (o .0, subst (λ q. RobotMeets (p .ports) q cs (leftOf (request (length buf)) s)) (sym (o .1)) later)
+      let later = meets-from cs (leftOf (request (length buf)) s) (reached-left P s R (request (length buf))) in
+      (o .0, subst (λ q. RobotMeets (P .plan .ports) q cs (leftOf (request (length buf)) s)) (sym (o .1)) later)
   meets-from (tells kind ∷ cs) s R =
-      subst (λ q. RobotMeets (p .ports) q cs (leftOf (report kind) s)) (sym (report-leaves (does-there t p e s R (report kind))))
-      (meets-from cs (leftOf (report kind) s) (reached-left t p e s R (report kind)))
+      subst (λ q. RobotMeets (P .plan .ports) q cs (leftOf (report kind) s)) (sym (report-leaves (does-there P s R (report kind))))
+      (meets-from cs (leftOf (report kind) s) (reached-left P s R (report kind)))
 
   -- and so it sees what happens on the bench
-  sees-from : (cs : List Called) (s : State) → Reached p s → robotActs cs s ≡ acts (turnsOf cs s)
+  sees-from : (cs : List Called) (s : State) → Reached P s → robotActs cs s ≡ acts (turnsOf cs s)
   unfolding robotActs acts turnsOf a
   sees-from [] s R = refl
   sees-from (asks buf ∷ cs) s R =
       let c = request (length buf) in
       let xs = robotActs cs (leftOf c s) in
-      seen-line (p .ports) (answerLine (answerOf c s)) buf (bytesOf s buf) (momentOf s .panel) xs (obeyed-there s R buf .0)
+      seen-line (P .plan .ports) (answerLine (answerOf c s)) buf (bytesOf s buf) (momentOf s .panel) xs (obeyed-there s R buf .0)
       ∙ line-front (length buf) (answerOf c s) xs
-      ∙ ap (inFront c (answerOf c s)) (sees-from cs (leftOf c s) (reached-left t p e s R c))
+      ∙ ap (inFront c (answerOf c s)) (sees-from cs (leftOf c s) (reached-left P s R c))
   sees-from (tells kind ∷ cs) s R =
-      let c = report kind in ap (inFront c (answerOf c s)) (sees-from cs (leftOf c s) (reached-left t p e s R c))
+      let c = report kind in ap (inFront c (answerOf c s)) (sees-from cs (leftOf c s) (reached-left P s R c))
 
   module _ (cs : List Called) where
     -- a robot that starts at home and reads nothing but the bytes obeys every line, and meets every mark's pattern
-    pub robot-meets : RobotMeets (p .ports) (home (p .ports)) cs (begunOf t)
+    pub robot-meets : RobotMeets (P .plan .ports) (home (P .plan .ports)) cs (begun P)
     unfolding first derangements
-    robot-meets = subst (λ m. RobotMeets (p .ports) (m .panel) cs (begunOf t)) (begun-moment t p e) (meets-from cs (begunOf t) (reached-first t p e))
+    robot-meets = subst (λ m. RobotMeets (P .plan .ports) (m .panel) cs (begun P)) (begun-moment P) (meets-from cs (begun P) (reached-first P))
 
     -- it sees exactly the orders and marks of the answers
-    pub robot-acts : robotActs cs (begunOf t) ≡ acts (turnsOf cs (begunOf t))
-    robot-acts = sees-from cs (begunOf t) (reached-first t p e)
+    pub robot-acts : robotActs cs (begun P) ≡ acts (turnsOf cs (begun P))
+    robot-acts = sees-from cs (begun P) (reached-first P)
 
     -- so demand three holds of what it sees
-    pub demand-bytes : Demanded C (turnsOf cs (begunOf t)) (robotActs cs (begunOf t)) (momentOf (leftAfter cs (begunOf t)))
+    pub demand-bytes : Demanded C (turnsOf cs (begun P)) (robotActs cs (begun P)) (momentOf (leftAfter cs (begun P)))
     demand-bytes =
-        subst (λ xs. Demanded C (turnsOf cs (begunOf t)) xs (momentOf (leftAfter cs (begunOf t)))) (sym robot-acts) (demand-left t p e cs)
+        subst (λ xs. Demanded C (turnsOf cs (begun P)) xs (momentOf (leftAfter cs (begun P)))) (sym robot-acts) (demand-left P cs)
 
     -- and its last clause: the panels that it carried to the marks of one full circuit are all derangements, each once
-    pub all-met-bytes : (l : Leg) → p .legs ≡ l ∷ [] → suc (l .run) ≡ count (p .ports) → leftAfter cs (begunOf t) .ended ≡ true
-        → FullCircuit (derangements (p .ports)) (robotActs cs (begunOf t))
-    all-met-bytes l one full ended = subst (FullCircuit (derangements (p .ports))) (sym robot-acts) (all-met t p e cs l one full ended)
+    pub all-met-bytes : (l : Leg) → P .plan .legs ≡ l ∷ [] → suc (l .run) ≡ count (P .plan .ports) → leftAfter cs (begun P) .ended ≡ true
+        → FullCircuit (derangements (P .plan .ports)) (robotActs cs (begun P))
+    all-met-bytes l one full ended = subst (FullCircuit (derangements (P .plan .ports))) (sym robot-acts) (all-met P cs l one full ended)

@@ -9,7 +9,6 @@ use Prim.Native.Nat.{ℕ, zero, suc, _+_, _*_, _≤_}
 use native.Mathlib.Omega.{arith}
 use lib.ListN.{length, length-map}
 use Rattle.listing.specs.Count.{count}
-use Rattle.words.specs.Told.{accepted}
 use Rattle.promise.specs.Plan.{Leg}
 use Rattle.promise.specs.Campaign.{Setting, request, report, isError, Answer, movement, mark, theEnd, taken, refusal, offer}
 use Rattle.promise.specs.Bench.{Act, inFront, acts, reports, leftBy}
@@ -18,16 +17,16 @@ use Rattle.promise.specs.Derangements.{derangements, mostErrors}
 use Rattle.promise.specs.Progress.{callsToEnd, Unrefused}
 use Rattle.promise.proofs.Progress as model
 use Rattle.promise.proofs.Refusals.{offered-so, no-refusal, served, ran-taken}
-use Rattle.plans.specs.Grammar.{Planned}
-use Rattle.plans.specs.Calls.{readPlanOf}
 use Rattle.campaign_state.specs.State.{width, momentOf}
 use Rattle.campaign_state.specs.declared.State.{State}
-use Rattle.campaign.specs.Calls.{answerOf, leftOf, begunOf}
-use Rattle.demands.specs.Code.{campaignOf, Called, callOf, turnsOf, leftAfter, dueCall, promptCalls}
-use Rattle.demands.proofs.Kept.{answer-on}
-use Rattle.demands.proofs.Three.{lawful, accepts, turned, left-moment, all-met}
-use Rattle.demands.proofs.Reached.{Reached, reached-first, reached-left}
-use Rattle.demands.proofs.Refusals.{offer-45}
+use Rattle.campaign.specs.Calls.{answerOf, leftOf}
+use Rattle.campaign_reached.specs.Turns.{AcceptedPlan, campaignOf, begun, Called, callOf, turnsOf, leftAfter}
+use Rattle.demands.specs.Prompt.{dueCall, promptCalls}
+use Rattle.campaign_reached.proofs.Kept.{answer-on}
+use Rattle.campaign_reached.proofs.Begun.{lawful, accepts}
+use Rattle.campaign_reached.proofs.Reached.{Reached, reached-first, reached-left}
+use Rattle.campaign_reached.proofs.Room.{offer-45}
+use Rattle.demands.proofs.Three.{turned, left-moment, all-met}
 
 -- ---- the calls of a bench that takes every mark as run
 
@@ -56,53 +55,53 @@ no-errors (suc n) buf s =
 
 -- ---- calls on an accepted plan
 
-module _ (t : List ℕ) (p : Planned) (e : readPlanOf t ≡ accepted p) where
+module _ (P : AcceptedPlan) where
   abbrev C : Setting
-  C = campaignOf p
+  C = campaignOf P
 
-  module _ (cs : List Called) (unrefused : Unrefused (turnsOf cs (begunOf t))) where
+  module _ (cs : List Called) (unrefused : Unrefused (turnsOf cs (begun P))) where
     -- the end of the model is the end of the code
-    ended-so : leftBy C (map callOf cs) .ended ≡ true → leftAfter cs (begunOf t) .ended ≡ true
-    ended-so h = ap (λ m. m .ended) (left-moment t p e cs) ∙ h
+    ended-so : leftBy C (map callOf cs) .ended ≡ true → leftAfter cs (begun P) .ended ≡ true
+    ended-so h = ap (λ m. m .ended) (left-moment P cs) ∙ h
 
     -- calls that are not refused reach the end, if they are as many as the plan's marks take, and two more for each error
-    pub reaches-end : callsToEnd C + 2 * reports isError (acts (turnsOf cs (begunOf t))) ≤ length cs → leftAfter cs (begunOf t) .ended ≡ true
+    pub reaches-end : callsToEnd C + 2 * reports isError (acts (turnsOf cs (begun P))) ≤ length cs → leftAfter cs (begun P) .ended ≡ true
     reaches-end many =
-        let same = turned t p e cs in
-        ended-so (model.reaches-end C (lawful t p e) (accepts t p e) (map callOf cs) (subst Unrefused same unrefused)
+        let same = turned P cs in
+        ended-so (model.reaches-end C (lawful P) (accepts P) (map callOf cs) (subst Unrefused same unrefused)
         (omega (arith, length-map cs callOf, ap (λ ts. reports isError (acts ts)) same)))
 
     -- and so many reach it however many errors are reported
-    pub reaches-end-always : callsToEnd C + 2 * mostErrors ≤ length cs → leftAfter cs (begunOf t) .ended ≡ true
+    pub reaches-end-always : callsToEnd C + 2 * mostErrors ≤ length cs → leftAfter cs (begun P) .ended ≡ true
     reaches-end-always many =
-        ended-so (model.reaches-end-always C (lawful t p e) (accepts t p e) (map callOf cs) (subst Unrefused (turned t p e cs) unrefused)
+        ended-so (model.reaches-end-always C (lawful P) (accepts P) (map callOf cs) (subst Unrefused (turned P cs) unrefused)
         (omega (arith, length-map cs callOf)))
 
   module _ (buf : List ℕ) (room : 45 ≤ length buf) where
     -- with 45 bytes of room the call that is due is not refused
-    due-answered : (s : State) → Reached p s → (b : Bool) → s .standing ≡ b → (k : ℕ) → answerOf (callOf (dueCall buf b)) s ≢ refusal k
+    due-answered : (s : State) → Reached P s → (b : Bool) → s .standing ≡ b → (k : ℕ) → answerOf (callOf (dueCall buf b)) s ≢ refusal k
     due-answered s R true st k x = true≢false (cc (answer-on C s (R .kept) (R .setting) (report 0), ran-taken C (momentOf s) (R .fit) st))
     due-answered s R false st k x =
         let m = momentOf s in
-        let few : width (offer C m) ≤ length buf = omega (arith, offer-45 t p e m (R .fit) st) in
+        let few : width (offer C m) ≤ length buf = omega (arith, offer-45 P m (R .fit) st) in
         let given = answer-on C s (R .kept) (R .setting) (request (length buf)) ∙ served C m (length buf) (R .fit) st few in
         no-refusal (offered-so C m (R .fit) st) k (sym given ∙ x)
 
-    due-unrefused : (n : ℕ) (s : State) → Reached p s → Unrefused (turnsOf (promptCalls n buf s) s)
+    due-unrefused : (n : ℕ) (s : State) → Reached P s → Unrefused (turnsOf (promptCalls n buf s) s)
     unfolding promptCalls turnsOf Unrefused
     due-unrefused zero s R = tt
     due-unrefused (suc n) s R =
         let c = callOf (dueCall buf (s .standing)) in
-        (due-answered s R (s .standing) refl, due-unrefused n (leftOf c s) (reached-left t p e s R c))
+        (due-answered s R (s .standing) refl, due-unrefused n (leftOf c s) (reached-left P s R c))
 
     -- so a bench that takes every mark as run ends every accepted plan, after at most ports plus one calls for each of its marks
-    pub promptly-ends : leftAfter (promptCalls (callsToEnd C) buf (begunOf t)) (begunOf t) .ended ≡ true
+    pub promptly-ends : leftAfter (promptCalls (callsToEnd C) buf (begun P)) (begun P) .ended ≡ true
     promptly-ends =
-        let cs = promptCalls (callsToEnd C) buf (begunOf t) in
-        reaches-end cs (due-unrefused (callsToEnd C) (begunOf t) (reached-first t p e))
-        (omega (arith, no-errors (callsToEnd C) buf (begunOf t), length-prompt (callsToEnd C) buf (begunOf t)))
+        let cs = promptCalls (callsToEnd C) buf (begun P) in
+        reaches-end cs (due-unrefused (callsToEnd C) (begun P) (reached-first P))
+        (omega (arith, no-errors (callsToEnd C) buf (begun P), length-prompt (callsToEnd C) buf (begun P)))
 
     -- so on a plan of one full circuit it meets every derangement exactly once
-    pub promptly-all-met : (l : Leg) → p .legs ≡ l ∷ [] → suc (l .run) ≡ count (p .ports)
-        → FullCircuit (derangements (p .ports)) (acts (turnsOf (promptCalls (callsToEnd C) buf (begunOf t)) (begunOf t)))
-    promptly-all-met l one full = all-met t p e (promptCalls (callsToEnd C) buf (begunOf t)) l one full promptly-ends
+    pub promptly-all-met : (l : Leg) → P .plan .legs ≡ l ∷ [] → suc (l .run) ≡ count (P .plan .ports)
+        → FullCircuit (derangements (P .plan .ports)) (acts (turnsOf (promptCalls (callsToEnd C) buf (begun P)) (begun P)))
+    promptly-all-met l one full = all-met P (promptCalls (callsToEnd C) buf (begun P)) l one full promptly-ends

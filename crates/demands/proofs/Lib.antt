@@ -9,9 +9,5 @@ pub mod Ends
 pub mod Longest
 pub mod Only
 -- What they rest on.
-pub mod Begun
-pub mod Kept
-pub mod Shown
-pub mod Reached
 pub mod Numbers
 pub mod PlanNumbers

@@ -12,7 +12,6 @@ use lib.Dec.{leb, ltb}
 use lib.ListN.{length, getD, replicate, length-replicate}
 use Rattle.listing.specs.Limits.{mostLegs}
 use Rattle.listing.proofs.Numbers.{either, test, below?}
-use Rattle.words.specs.Told.{accepted}
 use Rattle.line_format.proofs.Longest.{mark-45}
 use Rattle.promise.specs.Plan.{legAt, rankAt, ranks, number}
 use Rattle.promise.specs.Campaign.{Setting, request, report, wordOf, isError, isClosing, Answer, movement, mark, theEnd, taken, refusal, fit, offer, answer}
@@ -23,17 +22,17 @@ use Rattle.promise.specs.Progress.{callsToEnd}
 use Rattle.promise.proofs.Legs.{number-below, length-ranks, ranks-at}
 use Rattle.promise.proofs.Marks.{length-numbered}
 use Rattle.promise.proofs.Refusals.{refused-so, served}
-use Rattle.plans.specs.Grammar.{Planned, planText}
-use Rattle.plans.specs.Calls.{readPlanOf}
+use Rattle.plans.specs.Grammar.{planText}
 use Rattle.plans.proofs.Longest.{longestLeg, longest, longest-accepted}
 use Rattle.campaign_state.specs.State.{answerText, width, settingOf, momentOf}
 use Rattle.campaign_state.specs.Fitness.{placesFit}
 use Rattle.campaign_state.specs.declared.State.{State}
-use Rattle.campaign.specs.Calls.{answerOf, leftOf, begunOf}
-use Rattle.demands.specs.Code.{campaignOf, Called, asks, tells, callOf, turnsOf, leftAfter, promptCalls}
-use Rattle.demands.proofs.Kept.{answer-on}
+use Rattle.campaign.specs.Calls.{answerOf, leftOf}
+use Rattle.campaign_reached.specs.Turns.{AcceptedPlan, campaignOf, begun, Called, asks, tells, callOf, turnsOf, leftAfter}
+use Rattle.demands.specs.Prompt.{promptCalls}
+use Rattle.campaign_reached.proofs.Kept.{answer-on}
 use Rattle.demands.proofs.Three.{demand-left}
-use Rattle.demands.proofs.Reached.{reached-after}
+use Rattle.campaign_reached.proofs.Reached.{reached-after}
 use Rattle.demands.proofs.Ends.{promptly-ends}
 
 -- ---- marks that were met were handed out
@@ -105,39 +104,43 @@ numbered-at k [] i h = absurd (omega arith)
 numbered-at k (r ∷ rs) zero h = ap (λ j. (j, r)) (omega arith)
 numbered-at k (r ∷ rs) (suc i) h = numbered-at (suc k) rs i (omega arith) ∙ ap (λ j. (j, getD rs i 0)) (omega arith)
 
-module _ (t : List ℕ) (p : Planned) (e : readPlanOf t ≡ accepted p) where
+module _ (P : AcceptedPlan) where
   abbrev C : Setting
-  C = campaignOf p
+  C = campaignOf P
 
   -- the mark at each step of each leg of an accepted plan is what a request gives after some calls
-  pub every-mark-given : (i k : ℕ) → i < length (p .legs) → k ≤ legAt (p .legs) i .run
-      → Given (begunOf t) (number (p .legs) i k, rankAt (C .family) (legAt (p .legs) i) k)
+  pub every-mark-given : (i k : ℕ) → i < length (P .plan .legs) → k ≤ legAt (P .plan .legs) i .run
+      → Given (begun P) (number (P .plan .legs) i k, rankAt (C .family) (legAt (P .plan .legs) i) k)
   every-mark-given i k h l =
       let zeros : List ℕ = replicate 45 0 in
-      let cs = promptCalls (callsToEnd C) zeros (begunOf t) in
-      let all : marksMet (acts (turnsOf cs (begunOf t))) ≡ planned C =
-      demand-left t p e cs .marksAllAtEnd (promptly-ends t p e zeros (omega (arith, length-replicate {A = ℕ} 45 0))) in
-      let rs = ranks (C .family) (p .legs) in
-      let n = number (p .legs) i k in
-      let below : n < length rs = omega (arith, number-below (p .legs) i k h l, length-ranks (C .family) (p .legs)) in
-      let there : getD (marksMet (acts (turnsOf cs (begunOf t)))) n (0, 0) ≡ (n, rankAt (C .family) (legAt (p .legs) i) k) =
+      let cs = promptCalls (callsToEnd C) zeros (begun P) in
+      let all : marksMet (acts (turnsOf cs (begun P))) ≡ planned C =
+      demand-left P cs .marksAllAtEnd (promptly-ends P zeros (omega (arith, length-replicate {A = ℕ} 45 0))) in
+      let rs = ranks (C .family) (P .plan .legs) in
+      let n = number (P .plan .legs) i k in
+      let below : n < length rs = omega (arith, number-below (P .plan .legs) i k h l, length-ranks (C .family) (P .plan .legs)) in
+      let there : getD (marksMet (acts (turnsOf cs (begun P)))) n (0, 0) ≡ (n, rankAt (C .family) (legAt (P .plan .legs) i) k) =
       ap (λ xs. getD xs n (0, 0)) all ∙ numbered-at 0 rs n below ∙ ap (λ j. (j, getD rs n 0)) (zero-add n)
-      ∙ ap (λ r. (n, r)) (ranks-at (C .family) (p .legs) i k h l) in
-      subst (Given (begunOf t)) there
-      (given-so cs (begunOf t) false (0, 0) n (omega (arith, ap length all, length-numbered 0 rs)))
+      ∙ ap (λ r. (n, r)) (ranks-at (C .family) (P .plan .legs) i k h l) in
+      subst (Given (begun P)) there
+      (given-so cs (begun P) false (0, 0) n (omega (arith, ap length all, length-numbered 0 rs)))
 
 -- ---- 45 bytes
 
--- the first mark of the longest plan's last leg
+-- the longest plan, by its text
+abbrev pub longest-plan : AcceptedPlan
+longest-plan = record { text = planText longest; plan = longest; accepts = longest-accepted }
+
+-- the first mark of its last leg
 last-leg : number (longest .legs) 15 0 ≡ 13425219467893531815
 unfolding number
 last-leg = refl
 
--- after some calls on the plan of a text the next line has n bytes: a buffer of n is enough, and none of fewer
-pub record Needs (t : List ℕ) (n : ℕ) : Type 0 where
+-- after some calls on a plan the next line has n bytes: a buffer of n is enough, and none of fewer
+pub record Needs (P : AcceptedPlan) (n : ℕ) : Type 0 where
   pub calls : List Called
-  pub enough : (room : ℕ) → n ≤ room → length (answerText (answerOf (request room) (leftAfter calls (begunOf t)))) ≡ n
-  pub fewer : (room : ℕ) → room < n → answerOf (request room) (leftAfter calls (begunOf t)) ≡ refusal 2
+  pub enough : (room : ℕ) → n ≤ room → length (answerText (answerOf (request room) (leftAfter calls (begun P)))) ≡ n
+  pub fewer : (room : ℕ) → room < n → answerOf (request room) (leftAfter calls (begun P)) ≡ refusal 2
 
 -- where a request gave a mark, the mark is what is offered
 module _ (D : Setting) (m : model.State) (f : Fit D m) (room k r : ℕ) (e : answer D (request room) m ≡ mark k r) where
@@ -151,13 +154,12 @@ module _ (D : Setting) (m : model.State) (f : Fit D m) (room k r : ℕ) (e : ans
       (λ enough. sym (served D m room f none-stands enough) ∙ e)
 
 -- 'The longest that a campaign writes is 45 bytes': the longest plan comes to a line that needs them all
-pub needs-45 : Needs (planText longest) 45
+pub needs-45 : Needs longest-plan 45
 needs-45 =
-    let t = planText longest in
-    let D = campaignOf longest in
-    let g = every-mark-given t longest longest-accepted 15 0 (omega (arith, length-replicate mostLegs longestLeg)) (omega arith) in
-    let s = leftAfter (g .calls) (begunOf t) in
-    let R = reached-after t longest longest-accepted (g .calls) in
+    let D = campaignOf longest-plan in
+    let g = every-mark-given longest-plan 15 0 (omega (arith, length-replicate mostLegs longestLeg)) (omega arith) in
+    let s = leftAfter (g .calls) (begun longest-plan) in
+    let R = reached-after longest-plan (g .calls) in
     let m = momentOf s in
     let said : answer D (request (length (g .buffer))) m ≡ mark 13425219467893531815 895014631192902120 =
     sym (answer-on D s (R .kept) (R .setting) (request (length (g .buffer)))) ∙ g .is ∙ ap (λ k. mark k 895014631192902120) last-leg in

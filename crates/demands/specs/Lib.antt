@@ -1,6 +1,6 @@
--- Demand one; demand two; the calls and the robot of demand three; one answer to each call.
+-- Demand one; demand two; the robot of demand three; the calls of the order printer; one answer to each call.
 pub mod One
 pub mod Two
-pub mod Code
 pub mod Robot
+pub mod Prompt
 pub mod Only

@@ -7,7 +7,6 @@ use mathlib.Core.List.{List, [], _∷_}
 use mathlib.Core.Option.{Option, none, some}
 use lib.ListN.{length, drop}
 use Rattle.listing.specs.Limits.{mostPorts, largest64}
-use Rattle.listing.specs.Listing.{at}
 use Rattle.words.specs.Told.{Told, accepted, refused}
 use Rattle.words.specs.Meaning.{orderOf}
 use Rattle.words.specs.declared.Line.{Line}
@@ -20,7 +19,8 @@ use Rattle.promise.specs.Bench.{Act, moves, meets, inFront}
 use Rattle.campaign_state.specs.State.{answerLine}
 use Rattle.campaign_state.specs.declared.State.{State}
 use Rattle.campaign.specs.Calls.{answerOf, leftOf, bytesOf}
-use Rattle.demands.specs.Code.{Called, asks, tells}
+use Rattle.campaign_reached.specs.Turns.{Called, asks, tells}
+use Rattle.campaign_reached.specs.Shown.{MeetsAt}
 
 -- ---- what the robot does
 
@@ -39,12 +39,6 @@ panelAfter none bytes q = q
 panelAfter (some l) bytes q = obeyed (seen bytes) q
 
 -- ---- what is asked of each request
-
--- at a mark the panel is the pattern of the rank in that line
-abbrev pub MeetsAt : ℕ → Line → List ℕ → Type 0
-MeetsAt n (Movement o) q = Unit {0}
-MeetsAt n (Mark k r) q = q ≡ at n r
-MeetsAt n (End k) q = Unit {0}
 
 -- the answer's line l was written into the buffer buf, which has these bytes now; the robot's panel of n ports is q
 pub record Obeys (n : ℕ) (l : Line) (buf bytes q : List ℕ) : Type 0 where

@@ -22,10 +22,10 @@ use Rattle.plans.specs.Calls.{readPlanOf}
 use Rattle.campaign_state.specs.State.{width, settingOf, momentOf}
 use Rattle.campaign_state.specs.declared.State.{State}
 use Rattle.campaign.specs.Calls.{answerOf, leftOf, begunOf}
-use Rattle.demands.specs.Code.{campaignOf}
-use Rattle.demands.proofs.Three.{lawful, accepts}
-use Rattle.demands.proofs.Kept.{left-setting, answer-on, left-on}
-use Rattle.demands.proofs.Reached.{Reached, reached-first, does-there, reached-left}
+use Rattle.campaign_reached.specs.Turns.{AcceptedPlan, campaignOf}
+use Rattle.campaign_reached.proofs.Begun.{lawful, accepts}
+use Rattle.campaign_reached.proofs.Kept.{left-setting, answer-on, left-on}
+use Rattle.campaign_reached.proofs.Reached.{Reached, reached-first, does-there, reached-left}
 use Rattle.printing.specs.Printing.{asRun, sequel, more, Printout, onward, linesFrom, linesIn}
 use Rattle.printing.specs.Answers.{filledTold, stopTold, fillOf, PrintedIs}
 use Rattle.printing.specs.declared.Filled.the-variants.{Lines}
@@ -35,21 +35,15 @@ use Rattle.printing.proofs.Lines.{lines-on, lines-off, goes-on, stops, 
 
 -- a state that calls on an accepted plan leave
 pub record Running (s : State) : Type 0 where
-  pub text : List ℕ
-  pub plan : Planned
-  pub accepts : readPlanOf text ≡ accepted plan
+  pub plan : AcceptedPlan
   pub reached : Reached plan s
-
--- the first is one
-pub running-first : (t : List ℕ) (p : Planned) → readPlanOf t ≡ accepted p → Running (begunOf t)
-running-first t p e = record { text = t; plan = p; accepts = e; reached = reached-first t p e }
 
 -- the campaign that a text begins, where it is accepted
 pub running-begun : (t : List ℕ) → _≡_ {A = Told (Unit {0})} (accepted tt) (then (readPlanOf t) (λ p. accepted tt)) → Running (begunOf t)
 running-begun t e = by (readPlanOf t) refl e
   where
     by : (r : Told Planned) → readPlanOf t ≡ r → _≡_ {A = Told (Unit {0})} (accepted tt) (then r (λ p. accepted tt)) → Running (begunOf t)
-    by (accepted p) x h = running-first t p x
+    by (accepted p) x h = let P : AcceptedPlan = record { text = t; plan = p; accepts = x } in record { plan = P; reached = reached-first P }
     by (refused k q) x h = absurd (true≢false (cc))
 
 module _ (s : State) (R : Running s) where
@@ -61,23 +55,18 @@ module _ (s : State) (R : Running s) where
   go-by = ap (λ D. work D (momentOf s)) (R .reached .setting)
 
   pub running-left : (c : Call) → Running (leftOf c s)
-  running-left c = record {
-    text = R .text;
-    plan = R .plan;
-    accepts = R .accepts;
-    reached = reached-left (R .text) (R .plan) (R .accepts) s (R .reached) c;
-  }
+  running-left c = record { plan = R .plan; reached = reached-left (R .plan) s (R .reached) c }
 
   -- what a call does to it, but for an error
   does-less : {c : Call} {a : model.Answer} {n : model.State} → c ≢ report 1 → bringsOn a ≡ true → Fit C n → Does C (momentOf s) c a n
       → work C n < work C (momentOf s)
   does-less x b g (moves-on o os st en w) =
-      work-moved C (lawful (R .text) (R .plan) (R .accepts)) (accepts (R .text) (R .plan) (R .accepts)) (momentOf s) (R .reached .fit) o os st en w
+      work-moved C (lawful (R .plan)) (accepts (R .plan)) (momentOf s) (R .reached .fit) o os st en w
   does-less x b g (hands-out st en w) =
-      work-marked C (lawful (R .text) (R .plan) (R .accepts)) (accepts (R .text) (R .plan) (R .accepts)) (momentOf s) st en w
+      work-marked C (lawful (R .plan)) (accepts (R .plan)) (momentOf s) st en w
   does-less x b g (ends en) = absurd (true≢false (sym b))
   does-less {n = n} x b g (closes {kind = kind} st cl h) =
-      work-closing C (lawful (R .text) (R .plan) (R .accepts)) (accepts (R .text) (R .plan) (R .accepts)) (momentOf s) n kind (R .reached .fit) st h g
+      work-closing C (lawful (R .plan)) (accepts (R .plan)) (momentOf s) n kind (R .reached .fit) st h g
   does-less x b g (errs st lt) = absurd (x refl)
   does-less x b g (refuses k k15) = absurd (true≢false (sym b))
 
@@ -85,7 +74,7 @@ module _ (s : State) (R : Running s) where
 go-less : (s : State) (R : Running s) (c : Call) → c ≢ report 1 → bringsOn (answerOf c s) ≡ true → toGo (leftOf c s) < toGo s
 unfolding running-left
 go-less s R c x b =
-    let l = does-less s R x b (running-left s R c .reached .fit) (does-there (R .text) (R .plan) (R .accepts) s (R .reached) c) in
+    let l = does-less s R x b (running-left s R c .reached .fit) (does-there (R .plan) s (R .reached) c) in
     omega (arith, l, go-by s R, go-by (leftOf c s) (running-left s R c))
 
 -- an answer that no line follows leaves the moment, and nothing is to be reported

@@ -17,9 +17,9 @@ use Rattle.campaign_state.specs.declared.State.{State}
 use Rattle.campaign.specs.Calls.{answerOf, after, leftOf}
 use Rattle.campaign.proofs.Moments.{refusal-leaves}
 use Rattle.campaign.proofs.Tells.{any-room}
-use Rattle.demands.specs.Code.{campaignOf}
-use Rattle.demands.proofs.Kept.{answer-on}
-use Rattle.demands.proofs.Refusals.{offer-45}
+use Rattle.campaign_reached.specs.Turns.{campaignOf}
+use Rattle.campaign_reached.proofs.Kept.{answer-on}
+use Rattle.campaign_reached.proofs.Room.{offer-45}
 use Rattle.printing.specs.Printing.{asRun, sequel, more, Printout, onward, linesFrom, linesIn}
 use Rattle.printing.specs.Progress.{toGo, anyLine, wholeFrom, whole, stillToCome}
 use Rattle.printing.proofs.Lines.{lines-on, lines-off}
@@ -43,7 +43,7 @@ module _ (s : State) (R : Running s) (room : ℕ) where
           → model.answer (campaignOf (R .plan)) (request anyLine) (momentOf s) ≡ x
       by x (why-refused w) h = absurd (not-both h)
       by x (given st) h =
-          served (campaignOf (R .plan)) (momentOf s) anyLine (R .reached .fit) st (offer-45 (R .text) (R .plan) (R .accepts) (momentOf s) (R .reached .fit) st)
+          served (campaignOf (R .plan)) (momentOf s) anyLine (R .reached .fit) st (offer-45 (R .plan) (momentOf s) (R .reached .fit) st)
 
   -- and leaves what that leaves
   onward-same : (b : Bool) → sequel (answerOf (request room) s) ≡ accepted b → onward anyLine s ≡ onward room s

@@ -21,7 +21,7 @@ use Rattle.campaign_state.specs.Fitness.{emptyFrom, placesFit}
 use Rattle.campaign_state.specs.declared.State.{State}
 use Rattle.campaign_state.proofs.Places.{empty-from}
 use Rattle.campaign.specs.Calls.{answerOf, leftOf}
-use Rattle.demands.specs.Code.{Called, callOf, turnsOf, leftAfter}
+use Rattle.campaign_reached.specs.Turns.{Called, callOf, turnsOf, leftAfter}
 
 -- ---- the panel's length in the model
 

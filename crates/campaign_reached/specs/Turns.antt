@@ -1,20 +1,32 @@
 -- The calls that a bench makes, and what the contracts of `campaign` say that they answer and leave: turns, as the third demand speaks of them.
 -- Assumes nothing.
-use Prim.Native.Nat.{ℕ, zero, suc}
-use mathlib.Core.Bool.{Bool, cond}
+use Prim.Native.Nat.{ℕ}
 use mathlib.Core.List.{List, [], _∷_}
+use mathlib.Core.Path.{_≡_}
 use lib.ListN.{length}
+use Rattle.words.specs.Told.{accepted}
 use Rattle.promise.specs.Campaign.{Setting, Call, request, report}
 use Rattle.promise.specs.Bench.{Turn}
 use Rattle.promise.specs.Derangements.{onPorts}
 use Rattle.plans.specs.Grammar.{Planned}
+use Rattle.plans.specs.Calls.{readPlanOf}
 use Rattle.campaign_state.specs.State.{width, momentOf}
 use Rattle.campaign_state.specs.declared.State.{State}
-use Rattle.campaign.specs.Calls.{answerOf, leftOf}
+use Rattle.campaign.specs.Calls.{answerOf, leftOf, begunOf}
 
--- the campaign of a plan: on its ports, with its legs
-abbrev pub campaignOf : Planned → Setting
-campaignOf p = onPorts (p .ports) (p .legs) width
+-- 'any accepted plan': a text, and the plan that it was accepted as
+pub record AcceptedPlan : Type 0 where
+  pub text : List ℕ
+  pub plan : Planned
+  pub accepts : readPlanOf text ≡ accepted plan
+
+-- its campaign: on its ports, with its legs
+abbrev pub campaignOf : AcceptedPlan → Setting
+campaignOf P = onPorts (P .plan .ports) (P .plan .legs) width
+
+-- the state that its text leaves
+abbrev pub begun : AcceptedPlan → State
+begun P = begunOf (P .text)
 
 -- a call of the bench: a request with the bytes of the lent buffer, or a report with its kind
 pub data Called : Type 0 where
@@ -36,14 +48,3 @@ turnsOf (c ∷ cs) s =
 unfoldable pub leftAfter : List Called → State → State
 leftAfter [] s = s
 leftAfter (c ∷ cs) s = leftAfter cs (leftOf (callOf c) s)
-
--- the call that is due where every mark is 'taken as run': on a standing mark the report that it ran, else a request with the buffer
-abbrev pub dueCall : List ℕ → Bool → Called
-dueCall buf standing = cond standing (tells 0) (asks buf)
-
--- so many calls, each the one that is due, as the order printer makes them
-unfoldable pub promptCalls : ℕ → List ℕ → State → List Called
-promptCalls zero buf s = []
-promptCalls (suc n) buf s =
-    let c = dueCall buf (s .standing) in
-    c ∷ promptCalls n buf (leftOf (callOf c) s)

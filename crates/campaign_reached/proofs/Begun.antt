@@ -1,32 +1,37 @@
--- The state that an accepted text leaves: its plan and unused places are within the rules (`begun-fit`), its campaign is that of the plan (`begun-setting`)
--- and its moment the first one (`begun-first`). At the front, places beyond a list.
+-- The state that an accepted text leaves: its plan and unused places are within the rules (`begun-kept`), its campaign is that of the plan (`begun-setting`)
+-- and its moment the first one (`begun-moment`). The plan's family is lawful and the model accepts its legs. At the front, places beyond a list.
 -- Assumes nothing.
 use mathlib.Core.Path.{_≡_, refl, sym, ap, subst, _∙_}
 use mathlib.Core.Bool.{true, false, and-eq-true-iff}
 use mathlib.Core.List.{List, [], _∷_, _++_, map}
-use Prim.Native.Nat.{ℕ, zero, suc, _-_, _≤_}
+use Prim.Native.Nat.{ℕ, zero, suc, _-_, _≤_, _<_}
 use native.Mathlib.Omega.{arith}
 use lib.IntN.{ℤ, pos}
 use lib.ListN.{length, getD, take, replicate, length-append, length-map}
 use lib.Seq.{take-append-seam}
+use Rattle.listing.specs.Count.{count}
 use Rattle.listing.specs.Ends.{home}
 use Rattle.listing.specs.Limits.{mostPorts, mostLegs}
 use Rattle.listing.proofs.Panels.{length-tabulate}
-use Rattle.words.specs.Told.{accepted}
-use Rattle.promise.specs.Campaign.{first}
+use Rattle.promise.specs.Plan.{legAt, Lawful, Circuit, Accepted}
+use Rattle.promise.specs.Campaign.{Setting, first}
 use Rattle.promise.specs.Derangements.{derangements, onPorts}
+use Rattle.promise.proofs.Circuit.{circuit-accepts}
+use Rattle.promise.proofs.Derangements.{lawful-on, circuit-on}
 use Rattle.plans.specs.Grammar.{Planned, Fits}
 use Rattle.plans.specs.Answers.{signedRun, placed, heldOf, plannedOf}
-use Rattle.plans.specs.Calls.{device, readPlanOf}
+use Rattle.plans.specs.Calls.{device}
 use Rattle.plans.specs.declared.Plan.{Plan}
-use Rattle.plans.proofs.Plans.{accepted-fits}
+use Rattle.plans.proofs.Plans.{accepted-fits, each-fits}
 use Rattle.plans.proofs.Runs.{held-planned, held-places}
 use Rattle.plan_rules.specs.Rules.{planRuled}
 use Rattle.plan_rules.proofs.Rules.{tells-ruled}
 use Rattle.campaign_state.specs.State.{width, settingOf, momentOf}
 use Rattle.campaign_state.specs.Fitness.{emptyFrom, placesFit}
 use Rattle.campaign_state.proofs.Places.{tells-empty}
-use Rattle.campaign.specs.Calls.{firstState, begunOf}
+use Rattle.campaign.specs.Calls.{firstState}
+use Rattle.campaign_reached.specs.Turns.{AcceptedPlan, campaignOf, begun}
+use Rattle.campaign_reached.proofs.Kept.{Kept}
 
 -- ---- places beyond a list
 
@@ -109,22 +114,44 @@ module _ (p : Planned) (f : Fits device p) where
 
 -- ---- the state that an accepted text leaves
 
-module _ (t : List ℕ) (p : Planned) (e : readPlanOf t ≡ accepted p) where
+module _ (P : AcceptedPlan) where
+  abbrev p : Planned
+  p = P .plan
+
+  abbrev C : Setting
+  C = campaignOf P
+
   pub plan-fits : Fits device p
-  plan-fits = accepted-fits device 1 t p e .0
+  plan-fits = accepted-fits device 1 (P .text) p (P .accepts) .0
 
-  -- it is the plan's first state
-  begun : begunOf t ≡ firstState (placed mostLegs p)
-  begun = ap (λ r. firstState (heldOf mostLegs r)) e
+  -- its family is lawful, and a circuit
+  pub lawful : Lawful (C .family)
+  lawful = lawful-on (p .ports) (plan-fits .fewPorts)
 
-  pub begun-fit : placesFit (begunOf t) ≡ true
-  begun-fit = ap placesFit begun ∙ first-fit p plan-fits
+  pub circuit : Circuit (C .family)
+  circuit = circuit-on (p .ports) (plan-fits .fewPorts)
 
-  pub begun-setting : settingOf (begunOf t) ≡ onPorts (p .ports) (p .legs) width
-  begun-setting = ap settingOf begun ∙ first-setting p plan-fits
+  -- each leg starts at a listed rank
+  pub starts-listed : (i : ℕ) → i < length (p .legs) → legAt (p .legs) i .start < C .family .size
+  unfolding derangements
+  starts-listed i h = each-fits (count (p .ports)) (p .legs) (plan-fits .each) i h .start
 
-  pub begun-first : momentOf (begunOf t) ≡ first (settingOf (begunOf t))
-  begun-first = subst (λ s. momentOf s ≡ first (settingOf s)) (sym begun) (first-moment p plan-fits)
+  -- and the model accepts it
+  pub accepts : Accepted (C .family) (p .legs)
+  accepts = circuit-accepts (C .family) circuit (p .legs) (omega (arith, plan-fits .fewLegs)) starts-listed
 
-  pub begun-room : begunOf t .plan .ports ≤ length (begunOf t .panel)
-  begun-room = subst (λ s. s .plan .ports ≤ length (s .panel)) (sym begun) (first-room p plan-fits)
+  -- the text leaves the plan's first state
+  is-first : begun P ≡ firstState (placed mostLegs p)
+  is-first = ap (λ r. firstState (heldOf mostLegs r)) (P .accepts)
+
+  -- which is within the rules
+  pub begun-kept : Kept (begun P)
+  begun-kept = subst Kept (sym is-first) (record { fit = first-fit p plan-fits; room = first-room p plan-fits })
+
+  -- of the plan's campaign
+  pub begun-setting : settingOf (begun P) ≡ C
+  begun-setting = ap settingOf is-first ∙ first-setting p plan-fits
+
+  -- and at its first moment
+  pub begun-moment : momentOf (begun P) ≡ first C
+  begun-moment = subst (λ s. momentOf s ≡ first (settingOf s)) (sym is-first) (first-moment p plan-fits) ∙ ap first begun-setting
