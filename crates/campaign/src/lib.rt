@@ -8,6 +8,13 @@ use words::Order;
 use words::Outcome;
 use words::Refusal;
 
+// The kinds of a report on the standing mark.
+pub const RAN: u8 = 0;
+
+pub const ERROR: u8 = 1;
+
+pub const GAVE_UP: u8 = 2;
+
 // A campaign: its state.
 pub struct Campaign {
     pub state: State,

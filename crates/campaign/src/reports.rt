@@ -1,5 +1,8 @@
 // Reports on the standing mark.
 use crate::Campaign;
+use crate::ERROR;
+use crate::GAVE_UP;
+use crate::RAN;
 use crate::Reported;
 use campaign_state::State;
 use campaign_state::judging::Stance;
@@ -7,6 +10,7 @@ use campaign_state::judging::judge;
 use plan_rules::leg_at;
 use words::Outcome;
 use words::Reason;
+use words::limits::MOST_ERRORS;
 use words::refusals::nowhere;
 ghost use mathlib.Core.Path.{_≡_};
 ghost use mathlib.Core.Bool.{true, false};
@@ -66,17 +70,17 @@ fn of_mark(s: State, kind: u8) -> Reported
     requires { ⌜ (fit s ≡ true) × (s .standing ≡ true) ⌝ }
     ensures { λ r. ⌜ ReportIs (report kind) (answerOf (report kind) s) s r ⌝ }
 {
-    if 2 < kind {
+    if GAVE_UP < kind {
         return refused(s, Reason::Kind);
     }
     let mut next = s;
     match kind {
-        0 => {
+        RAN => {
             next.covered = s.covered + 1;
             taken(closed_mark(next))
         }
-        1 => {
-            if 65535 <= s.errors {
+        ERROR => {
+            if MOST_ERRORS <= s.errors {
                 return refused(s, Reason::Errors);
             }
             next.errors = s.errors + 1;
@@ -95,7 +99,7 @@ fn of_none(s: State, kind: u8) -> Reported
     requires { ⌜ (fit s ≡ true) × (s .standing ≡ false) ⌝ }
     ensures { λ r. ⌜ ReportIs (report kind) (answerOf (report kind) s) s r ⌝ }
 {
-    if 2 < kind {
+    if GAVE_UP < kind {
         return refused(s, Reason::Kind);
     }
     refused(s, Reason::NoMark)

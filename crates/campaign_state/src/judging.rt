@@ -10,6 +10,8 @@ use plan_rules::marks_before;
 use plan_rules::plan_ruled;
 use words::Leg;
 use words::Order;
+use words::limits::LONGEST;
+use words::limits::MOST_ERRORS;
 ghost use mathlib.Core.Path.{_≡_};
 ghost use mathlib.Core.Bool.{true};
 ghost use Rattle.promise.specs.Tests.{same};
@@ -28,11 +30,11 @@ pub enum Stance {
 }
 
 // Whether the places of a panel beyond n ports are 0.
-fn empty_from(n: u8, panel: [u8; 20]) -> bool
+fn empty_from(n: u8, panel: [u8; LONGEST]) -> bool
     ensures { λ r. ⌜ r ≡ emptyFrom n panel ⌝ }
 {
     let mut at = n as usize;
-    while at < 20 {
+    while at < LONGEST {
         if panel[at] != 0 {
             return false;
         }
@@ -150,7 +152,7 @@ fn by_moment(s: State) -> Stance
     if l.run < s.step {
         return Stance::Unfit;
     }
-    if 65535 < s.errors {
+    if MOST_ERRORS < s.errors {
         return Stance::Unfit;
     }
     if counts_right(s) {

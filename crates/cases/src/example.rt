@@ -47,7 +47,7 @@ fn obey(panel: &mut [u8], line: Line) {
             let meets = met(panel, number, wanted);
             says::end(good && meets);
         }
-        Line::End(marks) => says::counted(b"example: marks at the end", marks, 5),
+        Line::End(marks) => says::counted(b"example: marks at the end", marks, MARKS),
     }
 }
 
@@ -66,11 +66,18 @@ fn read_one(text: &[u8], place: usize, panel: &mut [u8]) -> usize {
     }
 }
 
-// All eleven lines, on a panel.
+// The lines of the example's output, its bytes, and its marks.
+const LINES: u8 = 11;
+
+const BYTES: u64 = 98;
+
+const MARKS: u64 = 5;
+
+// All lines, on a panel.
 fn read_all(text: &[u8], panel: &mut [u8]) {
     let mut place: usize = 0;
     let mut lines: u8 = 0;
-    while lines < 11 {
+    while lines < LINES {
         place = read_one(text, place, panel);
         lines += 1;
     }
@@ -85,7 +92,7 @@ pub fn printed_and_read() {
     let filled = printed.filled;
     match filled {
         Filled::Ended(n) => {
-            says::counted(b"example: bytes printed", n as u64, 98);
+            says::counted(b"example: bytes printed", n as u64, BYTES);
             let mut panel = [2u8, 3, 4, 1];
             read_all(&buf[..n], &mut panel);
         }

@@ -4,6 +4,7 @@ use check::same;
 use patterns::neighbours::next;
 use patterns::neighbours::previous;
 use patterns::ranking::unrank;
+use words::limits::LARGEST;
 
 // The entry at a place of a pattern of up to 7 ports; 0 beyond it.
 fn entry(p: &[u8], j: usize) -> usize {
@@ -40,7 +41,7 @@ fn fresh(seen: &mut [u8], at: usize) -> bool {
 // One more where something is so.
 fn added(n: u64, so: bool) -> u64 {
     if so {
-        if n < 18446744073709551615 {
+        if n < LARGEST {
             return n + 1;
         }
     }

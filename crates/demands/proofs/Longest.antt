@@ -14,7 +14,7 @@ use Rattle.listing.specs.Limits.{mostLegs}
 use Rattle.listing.proofs.Numbers.{either, test, below?}
 use Rattle.line_format.proofs.Longest.{mark-45}
 use Rattle.promise.specs.Plan.{legAt, rankAt, ranks, number}
-use Rattle.promise.specs.Campaign.{Setting, request, report, wordOf, isError, isClosing, Answer, movement, mark, theEnd, taken, refusal, fit, offer, answer}
+use Rattle.promise.specs.Campaign.{Setting, request, report, reportOf, isError, isClosing, Answer, movement, mark, theEnd, taken, refusal, fit, offer, answer}
 use Rattle.promise.specs.Campaign as model
 use Rattle.promise.specs.Bench.{Act, inFront, acts, isMark, fresh, marksMet, numbered, planned}
 use Rattle.promise.specs.Fitness.{Fit, markStands, noRoom}
@@ -52,7 +52,7 @@ given-later c s x g = record { calls = c ∷ g .calls; buffer = g .buffer; is = 
 no-mark-heard : (kind : ℕ) (s : State) (k r : ℕ) → answerOf (report kind) s ≢ mark k r
 unfolding answerOf answer
 no-mark-heard kind s k r =
-    by (placesFit s) (not (fit (settingOf s) (momentOf s))) (ltb 2 kind) (not (s .standing)) (isError (wordOf kind) && leb (settingOf s .limit) (s .errors))
+    by (placesFit s) (not (fit (settingOf s) (momentOf s))) (ltb 2 kind) (not (s .standing)) (isError (reportOf kind) && leb (settingOf s .limit) (s .errors))
   where
     by : (a b c d e : Bool)
         → cond a (cond b (refusal 15) (cond c (refusal 14) (cond d (refusal 12) (cond e (refusal 16) taken)))) (refusal 15) ≢ mark k r
@@ -87,7 +87,7 @@ all-given c s (mark k r) xs e h again m i l = by (again && isMark m k r) i l
     by false (suc i) l = given-later c s _ (h false (k, r) i (omega arith))
 all-given c s (theEnd k) xs e h again m i l = given-later c s _ (h again m i l)
 all-given (asks buf) s taken xs e h again m i l = given-later (asks buf) s _ (h again m i l)
-all-given (tells kind) s taken xs e h again m i l = given-later (tells kind) s _ (h (not (isClosing (wordOf kind))) m i l)
+all-given (tells kind) s taken xs e h again m i l = given-later (tells kind) s _ (h (not (isClosing (reportOf kind))) m i l)
 all-given c s (refusal k) xs e h again m i l = given-later c s _ (h again m i l)
 
 given-so : (cs : List Called) (s : State) → AllGiven s (acts (turnsOf cs s))

@@ -27,7 +27,7 @@ use Rattle.line_format.specs.Calls.{roomOf, writeOf, writeBytes}
 use Rattle.words.specs.Shape.{lineFits}
 use Rattle.line_format.specs.Reading.{fitting, numbersIn, numbersTold, keyed, lineIn, readOf}
 use Rattle.plans.specs.Calls.{device}
-use Rattle.promise.specs.Campaign.{Setting, refusal, Call, request, report, wordOf, isError, todo, next, offer, answer}
+use Rattle.promise.specs.Campaign.{Setting, refusal, Call, request, report, reportOf, isError, todo, next, offer, answer}
 use Rattle.promise.specs.Campaign as model
 use Rattle.campaign_state.specs.State.{settingOf, momentOf}
 use Rattle.campaign_state.specs.Fitness.{placesFit}
@@ -152,7 +152,7 @@ report-numbers kind s =
     (answer-cond ofReport (not (model.fit C m)) _ _ (answer-refusal ofReport 15 (inl refl))
     (answer-cond ofReport (ltb 2 kind) _ _ (answer-refusal ofReport 14 (inr (inl refl)))
     (answer-cond ofReport (not (m .standing)) _ _ (answer-refusal ofReport 12 (inr (inr (inl refl))))
-    (answer-cond ofReport (isError (wordOf kind) && leb (C .limit) (m .errors)) _ _ (answer-refusal ofReport 16 (inr (inr (inr (inl refl)))))
+    (answer-cond ofReport (isError (reportOf kind) && leb (C .limit) (m .errors)) _ _ (answer-refusal ofReport 16 (inr (inr (inr (inl refl)))))
     (λ k e. absurd (true≢false (cc)))))))
     (answer-refusal ofReport 15 (inl refl))
 

@@ -116,10 +116,6 @@ raise-lower i v h =
 pub raise-inj : (i a b : ℕ) → raise i a ≡ raise i b → a ≡ b
 raise-inj i a b e = sym (lower-raise i a) ∙ ap (lower i) e ∙ lower-raise i b
 
--- two values that are not i and are lowered alike are one
-pub lower-inj : (i a b : ℕ) → a ≢ i → b ≢ i → lower i a ≡ lower i b → a ≡ b
-lower-inj i a b na nb e = sym (raise-lower i a na) ∙ ap (raise i) e ∙ raise-lower i b nb
-
 -- two different values are raised to different ones
 pub raise-apart : (i a b : ℕ) → a ≢ b → raise i a ≢ raise i b
 raise-apart i a b ne e = ne (raise-inj i a b e)

@@ -13,6 +13,9 @@ ghost use Rattle.io.specs.Counts.{Counts};
 ghost use Rattle.printing.specs.Progress.{toGo};
 ghost use Rattle.printing.proofs.Progress.{Running};
 
+// How many bytes of standard input are judged as a plan. The longest plan has fewer.
+const JUDGED: usize = 1024;
+
 // A campaign after one buffer of its lines, and whether more are to come.
 struct Went {
     campaign: Campaign,
@@ -119,7 +122,7 @@ fn read_input(text: &mut [u8]) -> Input
 }
 
 fn main() {
-    let mut text = [0u8; 1024];
+    let mut text = [0u8; JUDGED];
     let input = read_input(&mut text);
     if input.failed {
         io::write_all(2, b"orders: the plan could not be read\n");

@@ -1,6 +1,7 @@
 // Order lines in bulk: as many whole lines as fit a lent buffer, every mark taken as run.
 use campaign::Answer;
 use campaign::Campaign;
+use campaign::RAN;
 use words::Refusal;
 ghost use mathlib.Core.Path.{_≡_};
 ghost use mathlib.Core.List.{_++_};
@@ -54,7 +55,7 @@ fn request_line(c: Campaign, buf: &mut [u8], at: usize) -> Given
             sequel: Sequel::More,
         },
         Answer::Mark(_, _) => {
-            let reported = next.report(0);
+            let reported = next.report(RAN);
             let ran = reported.campaign;
             Given {
                 campaign: ran,

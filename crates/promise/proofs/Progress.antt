@@ -12,7 +12,7 @@ use lib.ListN.{length}
 use Rattle.listing.specs.Orders.{Order, carry}
 use Rattle.listing.proofs.Numbers.{either, test}
 use Rattle.promise.specs.Plan.{Lawful, Accepted, marks}
-use Rattle.promise.specs.Campaign.{State, withPanel, withMark, Call, request, report, wordOf, isError, error, tick, tallied, Answer, movement}
+use Rattle.promise.specs.Campaign.{State, withPanel, withMark, Call, request, report, reportOf, isError, error, tick, tallied, Answer, movement}
 use Rattle.promise.specs.Campaign.{mark, theEnd, taken, refusal, Setting, first, here, numberOf, todo, offer, answer, after}
 use Rattle.promise.specs.Fitness.{Fit}
 use Rattle.promise.specs.Bench.{Turn, run, leaves, turns, leftBy, Act, inFront, acts, reports}
@@ -104,7 +104,7 @@ module _ (C : Setting) (lawful : Lawful (C .family)) (accepted : Accepted (C .fa
   work-marked s st en w = omega (arith, work-by C s false false (some []) en st w, work-by C (withMark true s) false true (some []) en refl w)
 
   -- closing a mark leaves less
-  pub work-closing : (s t : State) (kind : ℕ) → Fit C s → s .standing ≡ true → Closes C (tallied (wordOf kind) s) t → Fit C t → work C t < work C s
+  pub work-closing : (s t : State) (kind : ℕ) → Fit C s → s .standing ≡ true → Closes C (tallied (reportOf kind) s) t → Fit C t → work C t < work C s
   work-closing s t kind f st x g =
       omega (arith, work-by C s false true (todo C s) (not-ended s f st) st refl, work-closed x g)
 
@@ -134,7 +134,7 @@ module _ (C : Setting) (lawful : Lawful (C .family)) (accepted : Accepted (C .fa
   worked {s} (then f (hands-out st en w) h) = omega (arith, worked h, work-marked s st en w)
   worked (then f (ends en) h) = omega (arith, worked h)
   worked {s} (then {t = t} f (closes {kind = kind} st cl x) h) =
-      omega (arith, worked h, work-closing s t kind f st x (fit-start h), ap tick (closing-error (wordOf kind) cl))
+      omega (arith, worked h, work-closing s t kind f st x (fit-start h), ap tick (closing-error (reportOf kind) cl))
   worked {s} (then f (errs st lt) h) = omega (arith, worked h, work-erred s f st)
   worked (then f (refuses k n) h) = omega (arith, worked h)
 

@@ -33,10 +33,7 @@ loop-less c = went-less _ _ _ (c .before .before .loop-test .taken) _ (c .before
 loop-again : tie.Need-loop-again Inv-loop μ-loop
 loop-again c = c .before .print-some .ensures .0
 
-returns : tie.Need-returns Inv-loop μ-loop
-returns c = tt
-
 pub print-all-spec : {M : Type 1} → statement M
 print-all-spec =
     tie.close
-    (tie.spec Inv-loop μ-loop loop-holds print-some-requires loop-less loop-again returns)
+    (tie.spec Inv-loop μ-loop loop-holds print-some-requires loop-less loop-again (λ c. tt))

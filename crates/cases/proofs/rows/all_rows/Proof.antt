@@ -14,22 +14,13 @@ Inv-loop table p₀ rows n i₀ p i = length p ≡ length p₀
 abbrev μ-loop : tie.MeasureT-loop
 μ-loop table p₀ rows n i₀ p i = rows - i
 
-loop-holds : tie.Need-loop-holds Inv-loop μ-loop
-loop-holds c = refl
-
-loop-less : tie.Need-loop-less Inv-loop μ-loop
-loop-less c = omega arith
-
-returns : tie.Need-returns Inv-loop μ-loop
-returns c = tt
-
 pub all-rows-spec : {M : Type 1} → statement M
 all-rows-spec =
     tie.close
     (tie.spec
     Inv-loop
     μ-loop
-    loop-holds
+    (λ c. refl)
     (λ c κs. search needs)
     (λ c κs. search needs)
     (λ c κs. search needs)
@@ -37,7 +28,7 @@ all-rows-spec =
     (λ c κs. search needs)
     (λ c κs. search needs)
     (λ c. search needs)
-    loop-less
+    (λ c. omega arith)
     (λ c. search needs)
     (λ c. search needs)
-    returns)
+    (λ c. tt))

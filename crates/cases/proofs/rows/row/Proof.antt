@@ -13,23 +13,8 @@ Inv-loop table n i rest₀ left₀ rest left = Unit {0}
 abbrev μ-loop : tie.MeasureT-loop
 μ-loop table n i rest₀ left₀ rest left = left
 
-loop-holds : tie.Need-loop-holds Inv-loop μ-loop
-loop-holds c = tt
-
-loop-less : tie.Need-loop-less Inv-loop μ-loop
-loop-less c = omega arith
-
-loop-again : tie.Need-loop-again Inv-loop μ-loop
-loop-again c = tt
-
 slice-aggregate-result : tie.Need-slice-aggregate-result Inv-loop μ-loop
 slice-aggregate-result c = sym (length-take-le _ _ (c .before .if2 .taken))
-
-returns : tie.Need-returns Inv-loop μ-loop
-returns c = tt
-
-returns-2 : tie.Need-returns-2 Inv-loop μ-loop
-returns-2 c = tt
 
 pub row-spec : {M : Type 1} → statement M
 row-spec =
@@ -37,14 +22,14 @@ row-spec =
     (tie.spec
     Inv-loop
     μ-loop
-    loop-holds
+    (λ c. tt)
     (λ c. search needs)
     (λ c. search needs)
     (λ c. search needs)
     (λ c. search needs)
-    loop-less
-    loop-again
+    (λ c. omega arith)
+    (λ c. tt)
     slice-aggregate-result
-    returns
+    (λ c. tt)
     (λ c. search needs)
-    returns-2)
+    (λ c. tt))

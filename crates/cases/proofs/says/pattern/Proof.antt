@@ -13,28 +13,16 @@ Inv-loop p j₀ j = Unit {0}
 abbrev μ-loop : tie.MeasureT-loop
 μ-loop p j₀ j = length p - j
 
-loop-holds : tie.Need-loop-holds Inv-loop μ-loop
-loop-holds c = tt
-
-loop-less : tie.Need-loop-less Inv-loop μ-loop
-loop-less c = omega arith
-
-loop-again : tie.Need-loop-again Inv-loop μ-loop
-loop-again c = tt
-
-returns : tie.Need-returns Inv-loop μ-loop
-returns c = tt
-
 pub pattern-spec : {M : Type 1} → statement M
 pattern-spec =
     tie.close
     (tie.spec
     Inv-loop
     μ-loop
-    loop-holds
+    (λ c. tt)
     (λ c. search needs)
     (λ c κs. search needs)
     (λ c. search needs)
-    loop-less
-    loop-again
-    returns)
+    (λ c. omega arith)
+    (λ c. tt)
+    (λ c. tt))

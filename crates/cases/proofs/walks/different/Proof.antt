@@ -14,29 +14,20 @@ Inv-loop p₀ back steps seen₀ found₀ done₀ p seen found done = (length p 
 abbrev μ-loop : tie.MeasureT-loop
 μ-loop p₀ back steps seen₀ found₀ done₀ p seen found done = steps - done
 
-loop-holds : tie.Need-loop-holds Inv-loop μ-loop
-loop-holds c = (refl, refl)
-
-loop-less : tie.Need-loop-less Inv-loop μ-loop
-loop-less c = omega arith
-
-returns : tie.Need-returns Inv-loop μ-loop
-returns c = tt
-
 pub different-spec : {M : Type 1} → statement M
 different-spec =
     tie.close
     (tie.spec
     Inv-loop
     μ-loop
-    loop-holds
+    (λ c. (refl, refl))
     (λ c κs. search needs)
     (λ c κs. search needs)
     (λ c κs. search needs)
     (λ c κs. search needs)
     (λ c. search needs)
-    loop-less
+    (λ c. omega arith)
     (λ c. search needs)
     (λ c. search needs)
     (λ c. search needs)
-    returns)
+    (λ c. tt))
