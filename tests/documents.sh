@@ -1,6 +1,6 @@
-# The documents: every law and definition that a page of docs/ cites as `crate.File.name` stands where it says, and every must-fail edit
+# The documents: every law and definition that README or a page of docs/ cites as `crate.File.name` stands where it says, and every must-fail edit
 # that a page cites as `crate/must-fail/name.edit` is there.
-for page in docs/*.md; do
+for page in README.md docs/*.md; do
     cites=$(grep -oE '`[a-z_]+\.[A-Za-z]+\.[^ `]+`' "$page" | tr -d '`' | sort -u)
     edits=$(grep -oE '`[a-z_]+/must-fail/[^ `]+\.edit`' "$page" | tr -d '`' | sort -u)
     wrong=

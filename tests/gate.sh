@@ -17,7 +17,7 @@ must_fail() {
 }
 copy() {
     mkdir "$gate_copies/$1"
-    cp -R test tests .ci crates.txt crates docs "$gate_copies/$1/"
+    cp -R test tests .ci README.md crates.txt crates docs "$gate_copies/$1/"
 }
 
 copy stray-crate
@@ -28,6 +28,20 @@ must_fail stray-crate 'a crate folder that crates.txt does not list: stray'
 copy crate-without-folder
 echo 'absent:' >>"$gate_copies/crate-without-folder/crates.txt"
 must_fail crate-without-folder 'a crate of crates.txt without a folder: absent'
+
+copy roof-leaned-on
+sed 's/^orders:/orders: demands/' crates.txt >"$gate_copies/roof-leaned-on/crates.txt"
+must_fail roof-leaned-on 'a crate that depends on the roof, demands: orders'
+
+copy crate-without-a-room
+mkdir -p "$gate_copies/crate-without-a-room/crates/legs/src"
+echo 'legs:' >>"$gate_copies/crate-without-a-room/crates.txt"
+echo 'The crate `legs`.' >>"$gate_copies/crate-without-a-room/README.md"
+must_fail crate-without-a-room 'a crate that begins with no room: legs'
+
+copy crate-left-out-of-the-tour
+sed 's/`listing_cases`/the cases/' README.md >"$gate_copies/crate-left-out-of-the-tour/README.md"
+must_fail crate-left-out-of-the-tour "a crate that README's tour does not name: listing_cases"
 
 # a PATH on which every tool is found but rt
 copy no-kit

@@ -1,4 +1,5 @@
-# The layout: crates.txt and the folders of crates/ name the same crates.
+# The layout: crates.txt and the folders of crates/ name the same crates, README's tour names each of them, each stands in a room, and the
+# roof carries nothing.
 listed=$(sed -e 's/#.*//' -e 's/:.*//' -e 's/[[:space:]]//g' crates.txt | grep -v '^$' | sort)
 folders=$(for folder in crates/*/; do basename "$folder"; done | sort)
 stray=$(for name in $folders; do echo "$listed" | grep -qx "$name" || echo "$name"; done)
@@ -7,3 +8,27 @@ absent=$(for name in $listed; do [ -d "crates/$name" ] || echo "$name"; done)
 [ -z "$absent" ] || fail "a crate of crates.txt without a folder: $(echo $absent)"
 if [ -n "$stray$absent" ]; then finish; fi
 pass "crates.txt lists the crates there are: $(echo $listed)"
+
+unnamed=$(for name in $listed; do grep -qF "\`$name\`" README.md || echo "$name"; done)
+if [ -z "$unnamed" ]; then
+    pass "README's tour names every crate"
+else
+    fail "a crate that README's tour does not name: $(echo $unnamed)"
+fi
+
+# a room is the part of the name before its first _; the programs' room has names of its own
+rooms='listing promise words text pattern patterns panel line plan plans campaign printing orders cases face demands'
+homeless=$(for name in $listed; do echo " $rooms " | grep -qF " ${name%%_*} " || echo "$name"; done)
+if [ -z "$homeless" ]; then
+    pass "every crate begins with its room"
+else
+    fail "a crate that begins with no room: $(echo $homeless)"
+fi
+
+leaning=$(sed -n 's/^\([a-z_0-9]*\):.* demands\( .*\)*$/\1/p' crates.txt)
+if [ -z "$leaning" ]; then
+    pass "no crate depends on demands"
+else
+    fail "a crate that depends on the roof, demands: $(echo $leaning)"
+fi
+[ "$failed" -eq 0 ] || finish
