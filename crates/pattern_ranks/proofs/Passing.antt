@@ -22,7 +22,10 @@ use Rattle.listing.proofs.Places.{turned-below}
 use Rattle.listing.proofs.Ranks.{rank-below}
 use Rattle.listing.proofs.Reading.{rank-read}
 use Rattle.listing.proofs.Limits.{count-most}
-use Rattle.pattern_ranks.specs.Levels.{cameOf, wayOf, endOf, LevelOf}
+use Rattle.listing.proofs.Numbers.{less-one, less-two}
+use Rattle.pattern_steps.specs.Steps.{portsBefore, portsAfter, afterStep, Fits}
+use Rattle.pattern_steps.specs.declared.steps.Step.{Step}
+use Rattle.pattern_ranks.specs.Levels.{cameOf, wayOf, endOf, backFrom, LevelOf}
 use Rattle.pattern_ranks.specs.declared.types.Level.{Level}
 use Rattle.pattern_ranks.specs.declared.types.Came.{Came}
 use Rattle.pattern_ranks.specs.declared.types.Came.the-variants.{ByA, ByB}
@@ -100,18 +103,40 @@ shorter-fewer : (w : Way) (m : ℕ) → shorter w (suc (suc m)) < suc (suc m)
 shorter-fewer byA m = omega arith
 shorter-fewer byB m = omega arith
 
+-- the step back is that of the way that the pattern came, and asks nothing of the pattern
+back-way : (c : Came) (n : ℕ) (p : List ℕ)
+    → (portsBefore (backFrom c) n ≡ n) × (portsAfter (backFrom c) n ≡ shorter (wayOf c) n) × (afterStep (backFrom c) n p ≡ back (wayOf c) n p)
+back-way (ByA i) n p = (refl, less-one n, refl)
+back-way (ByB i) n p = (refl, less-two n, refl)
+
+pub back-fits : (c : Came) (n : ℕ) (p : List ℕ) {s : Step} → s ≡ backFrom c → Fits s n p
+back-fits (ByA i) n p e = rw e tt
+back-fits (ByB i) n p e = rw e tt
+
 -- the place is what is passed over and the place of the shorter pattern, in its list read forward or backward
-pub place-level : (forward : Bool) {first : Bool} {n x : ℕ} {p : List ℕ} {c : Came} (k : ℕ) (t : List ℕ) → 2 ≤ n → Derangement n p
-    → c ≡ cameOf (way n p) (entry p n) → x ≡ passed forward (wayOf c) n (endOf c) → first ≡ comesFirst forward (wayOf c) (endOf c)
-    → k ≡ shorter (wayOf c) n → t ≡ back (wayOf c) n p
-    → (k < n) × Derangement k t × (turned forward (count n) (rank n p) ≡ x + turned first (count k) (rank k t))
-place-level forward {n = zero} k t h D e ex ef ek et = absurd (omega arith)
-place-level forward {n = suc zero} k t h D e ex ef ek et = absurd (omega arith)
-place-level forward {n = suc (suc m)} {p = p} {c = c} k t h D e ex ef ek et =
+place-level : (forward : Bool) {n : ℕ} {p : List ℕ} {c : Came} → 2 ≤ n → Derangement n p → c ≡ cameOf (way n p) (entry p n)
+    → (shorter (wayOf c) n < n) × Derangement (shorter (wayOf c) n) (back (wayOf c) n p)
+    × (turned forward (count n) (rank n p)
+    ≡ passed forward (wayOf c) n (endOf c)
+    + turned (comesFirst forward (wayOf c) (endOf c)) (count (shorter (wayOf c) n)) (rank (shorter (wayOf c) n) (back (wayOf c) n p)))
+place-level forward {n = zero} h D e = absurd (omega arith)
+place-level forward {n = suc zero} h D e = absurd (omega arith)
+place-level forward {n = suc (suc m)} {p = p} {c = c} h D e =
     let n = suc (suc m) in
     let a = as-came c (way n p) (entry p n) e in
-    rw (ex, ef, ek, et, ← a .0, ← a .1)
-    (shorter-fewer (way n p) m, way-back m p D .0, rank-read forward m p (way n p) D refl)
+    rw (← a .0, ← a .1) (shorter-fewer (way n p) m, way-back m p D .0, rank-read forward m p (way n p) D refl)
+
+-- so the level that code computes is that of the law
+pub level-of : {forward : Bool} {n : ℕ} (q : List ℕ) {c : Came} {s : Step} (l : Level) → 2 ≤ n → Derangement n (take n q)
+    → c ≡ cameOf (way n (take n q)) (entry (take n q) n) → s ≡ backFrom c → l .passed ≡ passed forward (wayOf c) n (endOf c)
+    → l .forward ≡ comesFirst forward (wayOf c) (endOf c) → l .ports ≡ portsAfter s n
+    → take (portsAfter s n) (l .pattern) ≡ afterStep s n (take (portsBefore s n) q) → LevelOf forward n (take n q) l
+level-of {forward = forward} {n = n} q {c = c} l h D e es ex ef ek et =
+    let w = back-way c n (take n q) in
+    let k = rw (es, w .1) at ek in
+    let t = rw (es, w .0, w .1, w .2) at et in
+    let law = rw (← ex, ← ef, ← t, ← k) at (place-level forward h D e) in
+    record { fewer = law .0; pattern = law .1; place = law .2 }
 
 -- the pattern with no ports has place 0
 pub place-none : (forward : Bool) (n : ℕ) (p : List ℕ) → n ≡ 0 → 0 ≡ turned forward (count n) (rank n p)

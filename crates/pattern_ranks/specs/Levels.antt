@@ -11,6 +11,8 @@ use Rattle.listing.specs.Pattern.{Derangement}
 use Rattle.listing.specs.Count.{count}
 use Rattle.listing.specs.Steps.{Way, byA, byB}
 use Rattle.listing.specs.Rank.{fromEnd, perBlock, turned, rank}
+use Rattle.pattern_steps.specs.declared.steps.Step.{Step}
+use Rattle.pattern_steps.specs.declared.steps.Step.the-variants.{BackA, BackB}
 use Rattle.pattern_ranks.specs.declared.types.Origin.{Origin}
 use Rattle.pattern_ranks.specs.declared.types.Origin.the-variants.{ByA, ByB}
 use Rattle.pattern_ranks.specs.declared.types.Came.{Came}
@@ -41,6 +43,11 @@ wayOf (Came-ByB i) = byB
 abbrev pub endOf : Came → ℕ
 endOf (Came-ByA i) = i
 endOf (Came-ByB i) = i
+
+-- the step back
+abbrev pub backFrom : Came → Step
+backFrom (Came-ByA i) = BackA
+backFrom (Came-ByB i) = BackB
 
 -- one level of the place of p in the list, read forward or backward ('by turns', the paper, 'The list'): a pattern with fewer ports, and the place of p
 -- is what is passed over and the place of that pattern in its list, read forward or backward

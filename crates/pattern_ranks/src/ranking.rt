@@ -5,8 +5,10 @@ use pattern_steps::counts::block_size;
 use pattern_steps::counts::count_of;
 use pattern_steps::numbers::is_odd;
 use pattern_steps::panels::port_at;
-use pattern_steps::steps::back_a;
-use pattern_steps::steps::back_b;
+use pattern_steps::steps::Step;
+use pattern_steps::steps::after_step;
+use pattern_steps::steps::ports_after;
+use words::limits::LONGEST;
 ghost use mathlib.Core.Path.{_≡_};
 ghost use mathlib.Core.Bool.{cond};
 ghost use Prim.Native.Nat.{suc, _-_, _≤_};
@@ -18,10 +20,10 @@ ghost use Rattle.listing.specs.Steps.{shorter, way};
 ghost use Rattle.listing.specs.Rank.{fromEnd, rank};
 ghost use Rattle.listing.specs.Reading.{other, comesFirst, passed};
 ghost use Rattle.listing.specs.Limits.{mostPorts};
-ghost use Rattle.pattern_ranks.specs.Levels.{wayOf, endOf, cameOf, LevelOf};
+ghost use Rattle.pattern_ranks.specs.Levels.{wayOf, endOf, cameOf, backFrom, LevelOf};
 
 // The step that p came by: with i the entry at jack n, by B if jack i holds n, else by A.
-pub fn came(p: [u8; 20], n: u8) -> Came
+pub fn came(p: [u8; LONGEST], n: u8) -> Came
     requires { ⌜ (n ≤ mostPorts) × Among n (entry (take n p) n) ⌝ }
     ensures { λ r. ⌜ r ≡ cameOf (way n (take n p)) (entry (take n p) n) ⌝ }
 {
@@ -84,32 +86,33 @@ pub fn passed_over(forward: bool, n: u8, c: Came) -> u64
     blocks * block_size(n) + first_part(forward, n, c)
 }
 
+// The step back from a pattern that came by a step.
+fn back_from(c: Came) -> Step
+    ensures { λ r. ⌜ r ≡ backFrom c ⌝ }
+{
+    match c {
+        Came::ByA(_) => Step::BackA,
+        Came::ByB(_) => Step::BackB,
+    }
+}
+
 // One level of the place of p in the list, read forward or backward.
-fn level(forward: bool, p: [u8; 20], n: u8) -> Level
+fn level(forward: bool, p: [u8; LONGEST], n: u8) -> Level
     requires { ⌜ (2 ≤ n) × (n ≤ mostPorts) × Derangement n (take n p) ⌝ }
     ensures { λ r. ⌜ LevelOf forward n (take n p) r ⌝ }
 {
     let c = came(p, n);
-    let passed = passed_over(forward, n, c);
-    let first = comes_first(forward, c);
-    match c {
-        Came::ByA(_) => Level {
-            passed: passed,
-            forward: first,
-            ports: n - 1,
-            pattern: back_a(p, n),
-        },
-        Came::ByB(_) => Level {
-            passed: passed,
-            forward: first,
-            ports: n - 2,
-            pattern: back_b(p, n),
-        },
+    let back = back_from(c);
+    Level {
+        passed: passed_over(forward, n, c),
+        forward: comes_first(forward, c),
+        ports: ports_after(back, n),
+        pattern: after_step(back, p, n),
     }
 }
 
 // The place of p in the list: its rank.
-pub fn place(p: [u8; 20], n: u8) -> u64
+pub fn place(p: [u8; LONGEST], n: u8) -> u64
     requires { ⌜ (n ≤ mostPorts) × Derangement n (take n p) ⌝ }
     ensures { λ r. ⌜ r ≡ rank n (take n p) ⌝ }
 {
@@ -125,7 +128,7 @@ pub fn place(p: [u8; 20], n: u8) -> u64
 }
 
 // The place of p in the reversed list.
-pub fn place_back(p: [u8; 20], n: u8) -> u64
+pub fn place_back(p: [u8; LONGEST], n: u8) -> u64
     requires { ⌜ (n ≤ mostPorts) × Derangement n (take n p) ⌝ }
     ensures { λ r. ⌜ r ≡ fromEnd (count n) (rank n (take n p)) ⌝ }
 {

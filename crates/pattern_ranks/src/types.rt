@@ -1,4 +1,5 @@
 // What one level hands on to the next.
+use words::limits::LONGEST;
 
 // The step that makes a pattern, and the rank of the shorter pattern that it is made from.
 pub enum Origin {
@@ -17,5 +18,5 @@ pub struct Level {
     pub passed: u64,
     pub forward: bool,
     pub ports: u8,
-    pub pattern: [u8; 20],
+    pub pattern: [u8; LONGEST],
 }

@@ -5,8 +5,9 @@ use pattern_steps::counts::count_of;
 use pattern_steps::numbers::from_end;
 use pattern_steps::numbers::is_odd;
 use pattern_steps::numbers::turned_place;
-use pattern_steps::steps::step_a;
-use pattern_steps::steps::step_b;
+use pattern_steps::steps::Step;
+use pattern_steps::steps::after_step;
+use words::limits::LONGEST;
 ghost use mathlib.Core.Path.{_≡_};
 ghost use Prim.Native.Nat.{_≤_, _<_};
 ghost use lib.ListN.{take};
@@ -31,15 +32,15 @@ pub fn origin(n: u8, rank: u64) -> Origin
 }
 
 // The pattern of a rank: the shorter one, and the step that makes it. The pattern with no ports is any array.
-pub fn pattern_of(n: u8, rank: u64) -> [u8; 20]
+pub fn pattern_of(n: u8, rank: u64) -> [u8; LONGEST]
     requires { ⌜ (n ≤ mostPorts) × (rank < count n) ⌝ }
     ensures { λ r. ⌜ take n r ≡ at n rank ⌝ }
 {
     if n == 0 {
-        return [0u8; 20];
+        return [0u8; LONGEST];
     }
     match origin(n, rank) {
-        Origin::ByA(i, s) => step_a(pattern_of(n - 1, s), n, i),
-        Origin::ByB(i, s) => step_b(pattern_of(n - 2, s), n, i),
+        Origin::ByA(i, s) => after_step(Step::A(i), pattern_of(n - 1, s), n),
+        Origin::ByB(i, s) => after_step(Step::B(i), pattern_of(n - 2, s), n),
     }
 }

@@ -1,2 +1,3 @@
 pub mod CountTable
 pub mod Filling
+pub mod Tabulated

@@ -12,8 +12,7 @@ use Rattle.pattern_ranks.proofs.Origins.{two-ports, Makes, origin-makes
 use Rattle.pattern_ranks.proofs.unranking.pattern_of.Reads as pattern-of
 use Rattle.pattern_ranks.proofs.unranking.pattern_of.Kinds as pattern-of-kinds
 use Rattle.pattern_ranks.proofs.unranking.+pattern_of.Lts-pattern_of as lts
-use Rattle.pattern_steps.proofs.steps.step_a.Reads as step-a
-use Rattle.pattern_steps.proofs.steps.step_b.Reads as step-b
+use Rattle.pattern_steps.proofs.steps.after_step.Reads as after-step
 use Rattle.pattern_ranks.proofs.unranking.origin.Reads as origin
 use Rattle.pattern_ranks.proofs.unranking.+pattern_of.{statement}
 use Rattle.pattern_ranks.proofs.unranking.+pattern_of.Tie.{close}
@@ -30,7 +29,7 @@ fewer t = and 0 pattern-of-kinds.ps (falls 0 pattern-of-kinds.ps _<_ ports t) pa
 
 -- what the calls ask and tell
 abbrev calls : ℕ → lts.Claims
-calls t = (origin.Asked, origin.Learnt, fewer t, pattern-of.Post, step-a.Asked, step-a.Learnt, step-b.Asked, step-b.Learnt)
+calls t = (origin.Asked, origin.Learnt, fewer t, pattern-of.Post, after-step.Asked, after-step.Learnt)
 
 -- after the origin is known there are two ports, and what it names makes the pattern
 two : (t : ℕ) (o : lts.After-origin (calls t) (here t) pattern-of.Post) → 2 ≤ o .before .before .args .n
@@ -55,8 +54,8 @@ sub-pattern-of t c = search needs
 pattern-of-requires : (t : ℕ) → lts.Need-pattern-of-requires (calls t) (here t) pattern-of.Post
 pattern-of-requires t c κs = (omega arith, (omega arith, made t (c .before .before .before) (c .before .i .given .1) .0))
 
-step-a-requires : (t : ℕ) → lts.Need-step-a-requires (calls t) (here t) pattern-of.Post
-step-a-requires t c κs = search needs
+after-step-requires : (t : ℕ) → lts.Need-after-step-requires (calls t) (here t) pattern-of.Post
+after-step-requires t c κs = let o = c .before .before .before .before in (two t o, omega arith, tt)
 
 enum-known-i-2 : (t : ℕ) → lts.Need-enum-known-i-2 (calls t) (here t) pattern-of.Post
 enum-known-i-2 t c = search needs
@@ -67,25 +66,25 @@ sub-pattern-of-2 t c = two t (c .before .before .before)
 pattern-of-requires-2 : (t : ℕ) → lts.Need-pattern-of-requires-2 (calls t) (here t) pattern-of.Post
 pattern-of-requires-2 t c κs = (omega arith, (omega arith, made t (c .before .before .before) (c .before .i2 .given .1) .1))
 
-step-b-requires : (t : ℕ) → lts.Need-step-b-requires (calls t) (here t) pattern-of.Post
-step-b-requires t c κs =
+after-step-requires-2 : (t : ℕ) → lts.Need-after-step-requires-2 (calls t) (here t) pattern-of.Post
+after-step-requires-2 t c κs =
     let i = c .before .before in
     let m = made t (i .before .before) (i .i2 .given .1) in
-    (two t (i .before .before), omega arith, m .0, at-within (omega arith) (m .1) (c .pattern-of2 .ensures))
+    (two t (i .before .before), omega arith, (m .0, at-within (omega arith) (m .1) (c .pattern-of2 .ensures)))
 
 returns-2 : (t : ℕ) → lts.Need-returns-2 (calls t) (here t) pattern-of.Post
 returns-2 t c =
     let i = c .before .before .before in
-    c .step-a .ensures ∙ ap (stepA _ _) (c .before .pattern-of .ensures) ∙ made t (i .before .before) (i .i .given .1) .1
+    c .after-step .ensures ∙ ap (stepA _ _) (c .before .pattern-of .ensures) ∙ made t (i .before .before) (i .i .given .1) .1
 
 returns-3 : (t : ℕ) → lts.Need-returns-3 (calls t) (here t) pattern-of.Post
 returns-3 t c =
     let i = c .before .before .before in
-    c .step-b .ensures ∙ ap (stepB _ _) (c .before .pattern-of2 .ensures) ∙ made t (i .before .before) (i .i2 .given .1) .2
+    c .after-step2 .ensures ∙ ap (stepB _ _) (c .before .pattern-of2 .ensures) ∙ made t (i .before .before) (i .i2 .given .1) .2
 
 pub +pattern-of-spec : {M : Type 1} → statement M
 +pattern-of-spec =
     close ports
     (λ t.
-    lts.spec (calls t) (here t) pattern-of.Post (returns t) (origin-requires t) (enum-known-i t) (sub-pattern-of t) (pattern-of-requires t) (step-a-requires t)
-    (enum-known-i-2 t) (sub-pattern-of-2 t) (pattern-of-requires-2 t) (step-b-requires t) (returns-2 t) (returns-3 t))
+    lts.spec (calls t) (here t) pattern-of.Post (returns t) (origin-requires t) (enum-known-i t) (sub-pattern-of t) (pattern-of-requires t) (after-step-requires t)
+    (enum-known-i-2 t) (sub-pattern-of-2 t) (pattern-of-requires-2 t) (after-step-requires-2 t) (returns-2 t) (returns-3 t))
