@@ -19,7 +19,7 @@ use Rattle.promise.specs.Plan.{legAt, stepped, marks}
 use Rattle.promise.specs.Campaign.{here, rankOf, wanted, closedMarks}
 use Rattle.promise.specs.Derangements.{derangements}
 use Rattle.promise.proofs.Tests.{Tells, tells-and, tells-eqb}
-use Rattle.campaign_way.specs.Coming.{wrongFrom}
+use Rattle.pattern_carry.specs.Panels.{wrongFrom}
 use Rattle.words.specs.declared.Leg.{Leg}
 use Rattle.campaign_way.proofs.Differ.{same-wrong}
 use Rattle.plans.specs.Grammar.{LegFits}

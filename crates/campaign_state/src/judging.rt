@@ -3,7 +3,7 @@ use crate::State;
 use campaign_way::ToCome;
 use campaign_way::along::rank_along;
 use campaign_way::coming::coming;
-use campaign_way::panels::first_wrong;
+use pattern_carry::panels::first_wrong;
 use pattern_ranks::unranking::pattern_of;
 use plan_rules::leg_at;
 use plan_rules::marks_before;

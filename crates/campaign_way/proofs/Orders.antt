@@ -31,9 +31,11 @@ use Rattle.words.specs.Told.{Spot, accepted, refused}
 use Rattle.pattern_check.specs.Faults.{seek}
 use Rattle.pattern_check.specs.Calls.{checkAs}
 use Rattle.pattern_check.proofs.Accepted.{accepted-panel, panel-accepted}
-use Rattle.panel.proofs.Joined.{only-held}
-use Rattle.campaign_way.specs.Coming.{nextOf, orNext, wrongFrom}
-use Rattle.campaign_way.proofs.Differ.{wrong-among, carriage-first}
+use Rattle.pattern_carry.proofs.Held.{only-held}
+use Rattle.pattern_carry.specs.Panels.{wrongFrom}
+use Rattle.pattern_carry.proofs.Differ.{wrong-among}
+use Rattle.campaign_way.specs.Coming.{nextOf, orNext}
+use Rattle.campaign_way.proofs.Differ.{carriage-first}
 
 -- ---- inside a leg
 

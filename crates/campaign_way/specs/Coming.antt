@@ -1,11 +1,7 @@
 -- What is still to come before a mark, by its next order alone.
 -- Assumes nothing.
-use Prim.Native.Nat.{ℕ, zero, suc}
-use mathlib.Core.Bool.{cond}
 use mathlib.Core.List.{List, [], _∷_}
 use mathlib.Core.Option.{Option, none, some}
-use lib.Dec.{eqb}
-use Rattle.listing.specs.Pattern.{entry}
 use Rattle.listing.specs.Orders as list
 use Rattle.words.specs.Meaning.{orderOf}
 use Rattle.campaign_way.specs.declared.ToCome.{ToCome}
@@ -27,8 +23,3 @@ comingIs (Next o) = some (some (orderOf o))
 abbrev pub orNext : Option (Option list.Order) → Option (Option list.Order) → Option (Option list.Order)
 orNext none b = b
 orNext (some a) b = some a
-
--- the first of k jacks, from jack j on, at which two panels differ; 0 if none does
-unfoldable pub wrongFrom : ℕ → ℕ → List ℕ → List ℕ → ℕ
-wrongFrom zero j p q = 0
-wrongFrom (suc k) j p q = cond (eqb (entry p j) (entry q j)) (wrongFrom k (suc j) p q) j

@@ -1,13 +1,13 @@
 // The next order on the way to a mark, from the panel alone.
 use crate::ToCome;
 use crate::along::rank_along;
-use crate::panels::after_order;
-use crate::panels::first_wrong;
-use panel::lookups::holder;
+use pattern_carry::panels::after_order;
+use pattern_carry::panels::first_wrong;
+use pattern_carry::panels::holder;
+use pattern_carry::panels::port_at;
 use pattern_check::checking::check_panel;
 use pattern_moves::neighbours::move_beside;
 use pattern_ranks::unranking::pattern_of;
-use pattern_steps::panels::port_at;
 use words::Jack;
 use words::Leg;
 use words::Move;

@@ -1,24 +1,19 @@
 -- What the look-ups say of the panel: what is accepted and when, the port at a jack, the jack that holds a port, and that the two are each other's inverse.
 -- Assumes nothing.
-use mathlib.Core.Path.{_≡_, refl, sym, ap, _∙_}
-use mathlib.Core.Logic.{_≢_}
+use mathlib.Core.Path.{_≡_, refl, sym}
 use mathlib.Core.Bool.{Bool, true, false, cond, true≢false}
 use mathlib.Core.List.{List}
-use Prim.Native.Nat.{ℕ, zero, suc, _+_, _≤_, _<_}
-use native.Mathlib.Omega.{arith}
-use lib.Dec.{eqb}
+use Prim.Native.Nat.{ℕ}
 use lib.ListN.{length}
-use borrow.Author.Tests.{eqb-true, eqb-false}
 use Rattle.listing.specs.Numbers.{Among}
-use Rattle.listing.specs.Pattern.{entry, Permutation}
-use Rattle.listing.proofs.Numbers.{either, test}
-use Rattle.listing.proofs.Onto.{stands}
+use Rattle.listing.specs.Pattern.{entry}
 use Rattle.words.specs.Told.{nowhere, Told, accepted, refused, then}
 use Rattle.words.specs.Shape.{oneOf}
 use Rattle.words.proofs.Shape.{one-of, among-one}
 use Rattle.pattern_check.specs.Faults.{seek}
 use Rattle.pattern_check.specs.Calls.{checkAs}
 use Rattle.pattern_check.proofs.Accepted.{Panel, accepted-panel, panel-accepted}
+use Rattle.pattern_carry.proofs.Held.{held, only-held}
 use Rattle.panel.specs.Calls.{onPanel, portOf, jackOf}
 use Rattle.panel.proofs.Accepted.{fitting}
 
@@ -51,33 +46,6 @@ unfolding portOf
 told-port most p j P h = fits-told most p (oneOf (length p) j) (entry p j) P (among-one (length p) j h)
 
 -- ---- the jack that holds a port
-
--- if one of the jacks holds the port, the first that does is one of them
-finds : (p : List ℕ) (v i k a : ℕ) → i ≤ a → a < i + k → entry p a ≡ v
-    → (i ≤ seek p v i k) × (seek p v i k < i + k) × (entry p (seek p v i k) ≡ v)
-unfolding seek
-finds p v i zero a h l e = absurd (omega arith)
-finds p v i (suc k) a h l e =
-    either (test (eqb (entry p i) v))
-    (λ t. rw t (omega arith, omega arith, eqb-true (entry p i) v t))
-    (λ t.
-    let other : a ≢ i = λ s. eqb-false (entry p i) v t (ap (entry p) (sym s) ∙ e) in
-    let later = finds p v (suc i) k a (omega arith) (omega arith) e in
-    rw t (omega arith, omega arith, later .2))
-
-module _ (p : List ℕ) (P : Permutation (length p) p) where
-  -- every port of a panel has its jack
-  held : (v : ℕ) → Among (length p) v → Among (length p) (seek p v 1 (length p)) × (entry p (seek p v 1 (length p)) ≡ v)
-  held v h =
-      let s = stands (length p) p P v h in
-      let f = finds p v 1 (length p) (s .0) (s .1 .0) (omega (arith, s .1)) (s .2) in
-      (omega arith, f .2)
-
-  -- and no other
-  pub only-held : (v j : ℕ) → Among (length p) j → entry p j ≡ v → seek p v 1 (length p) ≡ j
-  only-held v j h e =
-      let f = held v (rw e at (P .ports j h)) in
-      P .apart (seek p v 1 (length p)) j (f .0) h (f .1 ∙ sym e)
 
 pub jack-told : (most : ℕ) (p : List ℕ) (v j : ℕ) → accepted j ≡ jackOf most p v → Panel most p × Among (length p) j × (entry p j ≡ v)
 unfolding jackOf

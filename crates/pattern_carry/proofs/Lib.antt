@@ -1,1 +1,5 @@
+pub mod Differ
+pub mod Filling
+pub mod Held
+pub mod Home
 pub mod Stores

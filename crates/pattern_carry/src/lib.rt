@@ -1,4 +1,6 @@
-// Orders and moves carried out on a lent panel.
+// Orders and moves carried out on a lent panel, and panels in arrays.
+pub mod panels;
+
 use words::Jack;
 use words::Move;
 use words::Order;

@@ -1,10 +1,10 @@
 // The place of a pattern in the list and in the reversed list, level by level.
 use crate::types::Came;
 use crate::types::Level;
+use pattern_carry::panels::port_at;
 use pattern_steps::counts::block_size;
 use pattern_steps::counts::count_of;
 use pattern_steps::numbers::is_odd;
-use pattern_steps::panels::port_at;
 use pattern_steps::steps::Step;
 use pattern_steps::steps::after_step;
 use pattern_steps::steps::ports_after;

@@ -1,3 +1,2 @@
 pub mod CountTable
-pub mod Filling
 pub mod Tabulated

@@ -2,7 +2,7 @@
 use crate::numbers::lowered;
 use crate::numbers::raised;
 use crate::numbers::traded;
-use crate::panels::port_at;
+use pattern_carry::panels::port_at;
 use words::limits::LONGEST;
 ghost use mathlib.Core.Path.{_≡_};
 ghost use Prim.Native.Nat.{_-_, _≤_};

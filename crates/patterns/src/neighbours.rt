@@ -1,10 +1,10 @@
 // Next and previous round the circuit: the lent pattern becomes the one beside it, and the answer is the move that was made.
 use crate::answers::Moved;
 use pattern_carry::carry_move;
+use pattern_carry::panels::load;
 use pattern_check::checking::check;
 use pattern_moves::neighbours::move_beside;
 use pattern_ranks::ranking::place;
-use pattern_steps::panels::load;
 use words::Outcome;
 ghost use mathlib.Core.Path.{_≡_};
 ghost use mathlib.Core.Bool.{true, false};

@@ -1,10 +1,10 @@
 // Rank from pattern and pattern from rank.
+use pattern_carry::panels::load;
+use pattern_carry::panels::store;
 use pattern_check::checking::check;
 use pattern_ranks::ranking::place;
 use pattern_ranks::unranking::pattern_of;
 use pattern_steps::counts::count_of;
-use pattern_steps::panels::load;
-use pattern_steps::panels::store;
 use words::Numbered;
 use words::Outcome;
 use words::Reason;

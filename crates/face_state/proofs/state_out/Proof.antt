@@ -6,7 +6,7 @@ use native.Mathlib.Omega.{arith}
 use lib.ListN.{length, take, set}
 use lib.Seq.{take-all}
 use borrow.Author.Needs.{needs}
-use Rattle.pattern_steps.proofs.Filling.{copy-stored, copy-all}
+use Rattle.pattern_carry.proofs.Filling.{copy-stored, copy-all}
 use Rattle.campaign_state.proofs.Places.{Sized}
 use Rattle.face_state.specs.States.{stateCount, stateWords}
 use Rattle.face_state.proofs.StateWords.{words-length}

@@ -1,7 +1,7 @@
 -- `campaign_way::coming::carriage_next`: the first wrong jack swaps with the jack that holds the port wanted there.
 use mathlib.Core.Path.{_∙_}
 use borrow.Author.Needs.{needs}
-use Rattle.campaign_way.proofs.Differ.{wrong-among}
+use Rattle.pattern_carry.proofs.Differ.{wrong-among}
 use Rattle.campaign_way.proofs.Orders.{carriage-done, carriage-fetched}
 use Rattle.campaign_way.proofs.coming.carriage_next.Statement.{statement}
 use Rattle.campaign_way.proofs.coming.carriage_next.Tie as tie

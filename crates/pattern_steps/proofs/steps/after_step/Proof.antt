@@ -8,7 +8,7 @@ use lib.ListN.{length, take}
 use Rattle.listing.specs.Pattern.{tabulate}
 use Rattle.listing.specs.Limits.{mostPorts}
 use Rattle.pattern_steps.specs.Steps.{portsBefore, portAfter}
-use Rattle.pattern_steps.proofs.Filling.{tabulate-stored}
+use Rattle.pattern_carry.proofs.Filling.{tabulate-stored}
 use Rattle.pattern_steps.proofs.Tabulated.{ports-after-most, step-filled}
 use Rattle.pattern_steps.proofs.steps.after_step.Statement.{statement}
 use Rattle.pattern_steps.proofs.steps.after_step.Tie as tie

@@ -1,10 +1,11 @@
--- `campaign::beginning::home_port`: the last jack holds port 1, every other the port after its own number.
+-- `pattern_carry::panels::home_port`: the last jack holds port 1, every other the port after its own number.
+-- Assumes nothing.
 use mathlib.Core.Path.{sym, _∙_}
 use native.Mathlib.Numerals.{add-one}
 use borrow.Author.Needs.{needs}
 use Rattle.listing.proofs.Numbers.{is-same, is-other}
-use Rattle.campaign.proofs.beginning.home_port.Statement.{statement}
-use Rattle.campaign.proofs.beginning.home_port.Tie as tie
+use Rattle.pattern_carry.proofs.panels.home_port.Statement.{statement}
+use Rattle.pattern_carry.proofs.panels.home_port.Tie as tie
 
 returns : tie.Need-returns
 returns c = sym (is-same (c .before .args .j) (c .before .args .n) 1 _ (c .if1 .taken))

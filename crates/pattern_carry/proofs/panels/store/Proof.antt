@@ -1,13 +1,13 @@
--- `pattern_steps::panels::store` meets its contract: each turn copies one port more. The loop's invariant: the first j entries are those of t.
+-- `pattern_carry::panels::store` meets its contract: each turn copies one port more. The loop's invariant: the first j entries are those of t.
 -- Assumes nothing.
 use mathlib.Core.Path.{_≡_, refl}
 use Prim.Native.Nat.{_≤_, _-_}
 use native.Mathlib.Omega.{arith}
 use borrow.Author.Needs.{needs}
 use lib.ListN.{length, take}
-use Rattle.pattern_steps.proofs.Filling.{copy-stored, copy-all}
-use Rattle.pattern_steps.proofs.panels.store.Statement.{statement}
-use Rattle.pattern_steps.proofs.panels.store.Tie as tie
+use Rattle.pattern_carry.proofs.Filling.{copy-stored, copy-all}
+use Rattle.pattern_carry.proofs.panels.store.Statement.{statement}
+use Rattle.pattern_carry.proofs.panels.store.Tie as tie
 
 abbrev Inv-loop : tie.InvT-loop
 Inv-loop out₀ t j₀ out j = (j ≤ length out₀) × (length out ≡ length out₀) × (take j out ≡ take j t)

@@ -1,11 +1,12 @@
--- `campaign_way::panels::after_order` carries the order out on the front of the array.
+-- `pattern_carry::panels::after_order` carries the order out on the front of the array.
+-- Assumes nothing.
 use mathlib.Core.Path.{sym, ap}
 use mathlib.Core.List.{_++_}
 use lib.ListN.{drop}
 use lib.Seq.{length-take-le}
 use borrow.Author.Needs.{needs}
-use Rattle.campaign_way.proofs.panels.after_order.Statement.{statement}
-use Rattle.campaign_way.proofs.panels.after_order.Tie as tie
+use Rattle.pattern_carry.proofs.panels.after_order.Statement.{statement}
+use Rattle.pattern_carry.proofs.panels.after_order.Tie as tie
 
 carry-order-requires : tie.Need-carry-order-requires
 carry-order-requires c κs = let a = c .before .args in rw (length-take-le (a .n) (a .p) (search needs)) (c .before .pre .1)

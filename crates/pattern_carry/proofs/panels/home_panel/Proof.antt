@@ -1,10 +1,11 @@
--- `campaign::beginning::home_panel` sets one jack more at each turn.
+-- `pattern_carry::panels::home_panel` sets one jack more at each turn.
+-- Assumes nothing.
 use mathlib.Core.Path.{_≡_, _∙_}
 use Prim.Native.Nat.{_-_, _≤_}
 use borrow.Author.Needs.{needs}
-use Rattle.campaign.proofs.Home.{homeTo, home-none, home-more, home-all}
-use Rattle.campaign.proofs.beginning.home_panel.Statement.{statement}
-use Rattle.campaign.proofs.beginning.home_panel.Tie as tie
+use Rattle.pattern_carry.proofs.Home.{homeTo, home-none, home-more, home-all}
+use Rattle.pattern_carry.proofs.panels.home_panel.Statement.{statement}
+use Rattle.pattern_carry.proofs.panels.home_panel.Tie as tie
 
 abbrev Inv-loop : tie.InvT-loop
 Inv-loop n panel₀ j₀ panel j = (j ≤ n) × (panel ≡ homeTo n j)

@@ -1,13 +1,14 @@
--- `campaign_way::panels::first_wrong` gives the first jack at which two panels differ: those up to `at` are right, so those after it decide.
+-- `pattern_carry::panels::first_wrong` gives the first jack at which two panels differ: those up to `at` are right, so those after it decide.
+-- Assumes nothing.
 use mathlib.Core.Path.{_≡_, refl, sym, _∙_}
 use Prim.Native.Nat.{suc, _-_}
 use native.Mathlib.Omega.{arith}
 use lib.ListN.{take}
 use borrow.Author.Needs.{needs}
-use Rattle.campaign_way.specs.Coming.{wrongFrom}
-use Rattle.campaign_way.proofs.Differ.{found-wrong, found-right, none-left}
-use Rattle.campaign_way.proofs.panels.first_wrong.Statement.{statement}
-use Rattle.campaign_way.proofs.panels.first_wrong.Tie as tie
+use Rattle.pattern_carry.specs.Panels.{wrongFrom}
+use Rattle.pattern_carry.proofs.Differ.{found-wrong, found-right, none-left}
+use Rattle.pattern_carry.proofs.panels.first_wrong.Statement.{statement}
+use Rattle.pattern_carry.proofs.panels.first_wrong.Tie as tie
 
 abbrev Inv-loop : tie.InvT-loop
 Inv-loop n p q end at₀ at = wrongFrom n 1 (take n p) (take n q) ≡ wrongFrom (n - at) (suc at) (take n p) (take n q)

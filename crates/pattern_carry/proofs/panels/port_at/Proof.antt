@@ -1,9 +1,9 @@
--- `pattern_steps::panels::port_at` meets its contract: jack j stands at index j - 1.
+-- `pattern_carry::panels::port_at` meets its contract: jack j stands at index j - 1.
 -- Assumes nothing.
 use borrow.Author.Needs.{needs}
-use Rattle.pattern_steps.proofs.Filling.{entry-front}
-use Rattle.pattern_steps.proofs.panels.port_at.Statement.{statement}
-use Rattle.pattern_steps.proofs.panels.port_at.Tie as tie
+use Rattle.pattern_carry.proofs.Filling.{entry-front}
+use Rattle.pattern_carry.proofs.panels.port_at.Statement.{statement}
+use Rattle.pattern_carry.proofs.panels.port_at.Tie as tie
 
 returns : tie.Need-returns
 returns c = entry-front (c .args .n) (c .args .t1) (c .args .j) (c .pre .1)

@@ -1,4 +1,4 @@
--- `panel::lookups::holder` gives the first jack that holds the port: no jack before `at` + 1 does, so those from there on decide.
+-- `pattern_carry::panels::holder` gives the first jack that holds the port: no jack before `at` + 1 does, so those from there on decide.
 -- Assumes nothing.
 use mathlib.Core.Path.{_≡_, refl, sym, _∙_}
 use Prim.Native.Nat.{suc, _≤_, _-_}
@@ -8,8 +8,8 @@ use lib.ListN.{length}
 use borrow.Author.Needs.{needs}
 use Rattle.pattern_check.specs.Faults.{seek}
 use Rattle.pattern_check.proofs.Faults.{seek-here, seek-on, seek-none}
-use Rattle.panel.proofs.lookups.holder.Statement.{statement}
-use Rattle.panel.proofs.lookups.holder.Tie as tie
+use Rattle.pattern_carry.proofs.panels.holder.Statement.{statement}
+use Rattle.pattern_carry.proofs.panels.holder.Tie as tie
 
 -- none of the jacks up to `at` holds the port
 abbrev Inv-loop : tie.InvT-loop

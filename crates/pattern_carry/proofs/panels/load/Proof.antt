@@ -1,13 +1,13 @@
--- `pattern_steps::panels::load` meets its contract: each turn copies one port more. The loop's invariant: the first j entries are those of p.
+-- `pattern_carry::panels::load` meets its contract: each turn copies one port more. The loop's invariant: the first j entries are those of p.
 -- Assumes nothing.
 use mathlib.Core.Path.{_≡_, refl}
 use Prim.Native.Nat.{_≤_, _-_}
 use native.Mathlib.Omega.{arith}
 use borrow.Author.Needs.{needs}
 use lib.ListN.{length, take}
-use Rattle.pattern_steps.proofs.Filling.{copy-stored, copy-front}
-use Rattle.pattern_steps.proofs.panels.load.Statement.{statement}
-use Rattle.pattern_steps.proofs.panels.load.Tie as tie
+use Rattle.pattern_carry.proofs.Filling.{copy-stored, copy-front}
+use Rattle.pattern_carry.proofs.panels.load.Statement.{statement}
+use Rattle.pattern_carry.proofs.panels.load.Tie as tie
 
 abbrev Inv-loop : tie.InvT-loop
 Inv-loop p t₀ j₀ t j = (j ≤ length p) × (length t ≡ 20) × (take j t ≡ take j p)
