@@ -7,14 +7,18 @@ use Prim.Native.Nat.{ℕ}
 use lib.ListN.{length}
 use Rattle.listing.specs.Numbers.{Among}
 use Rattle.listing.specs.Pattern.{entry}
-use Rattle.words.specs.Told.{nowhere, Told, accepted, refused, then}
+use Rattle.words.specs.Told.{Spot, nowhere, Told, accepted, refused, then}
 use Rattle.words.specs.Shape.{oneOf}
+use Rattle.words.specs.Meaning.{refusalOf, outcomeTold}
+use Rattle.words.specs.declared.Refusal.{Refusal}
+use Rattle.words.specs.declared.Outcome.{Outcome}
+use Rattle.words.specs.declared.Outcome.the-variants.{Accepted, Refused}
 use Rattle.words.proofs.Shape.{one-of, among-one}
 use Rattle.pattern_check.specs.Faults.{seek}
 use Rattle.pattern_check.specs.Calls.{checkAs}
 use Rattle.pattern_check.proofs.Accepted.{Panel, accepted-panel, panel-accepted}
 use Rattle.pattern_carry.proofs.Held.{held, only-held}
-use Rattle.panel.specs.Calls.{onPanel, portOf, jackOf}
+use Rattle.panel.specs.Calls.{onPanel, mayAsk, portOf, jackOf}
 use Rattle.panel.proofs.Accepted.{fitting}
 
 -- ---- what is accepted, and when
@@ -25,6 +29,12 @@ parts (accepted ok) true a b e = (refl, refl, cc)
 parts (accepted ok) false a b e = absurd (true≢false (cc))
 parts (refused k s) fits a b e = absurd (true≢false (cc))
 
+refusal-on : {A : Type 0} (t : Told (Unit {0})) (fits : Bool) (a : A) {k : ℕ} {s : Spot}
+    → refused k s ≡ then t (λ ok. cond fits (accepted (tt {0})) (refused 17 nowhere)) → refused k s ≡ then t (λ ok. cond fits (accepted a) (refused 17 nowhere))
+refusal-on (accepted ok) true a e = absurd (true≢false (cc))
+refusal-on (accepted ok) false a e = cc
+refusal-on (refused i r) fits a e = cc
+
 module _ {A : Type 0} (most : ℕ) (p : List ℕ) (fits : Bool) where
   -- an accepted call found a permutation of 2 to `most` ports and something that fits it, and gives what is defined
   pub told-fits : (a b : A) → accepted a ≡ onPanel most p fits b → Panel most p × (fits ≡ true) × (a ≡ b)
@@ -34,6 +44,22 @@ module _ {A : Type 0} (most : ℕ) (p : List ℕ) (fits : Bool) where
   -- and on each of these it is accepted, with a port at its own jack or without
   fits-told : (a : A) → Panel most p → fits ≡ true → accepted a ≡ onPanel most p fits a
   fits-told a P t = fitting most p fits a (panel-accepted most p P) t
+
+-- ---- a panel is asked for one of its numbers
+
+module _ (most : ℕ) (p : List ℕ) (x : ℕ) {r : Outcome} (e : outcomeTold r ≡ mayAsk most p x) where
+  -- where it may be, it is a panel that has the number
+  pub asked : r ≡ Accepted → Panel most p × Among (length p) x
+  asked is = let t = told-fits most p (oneOf (length p) x) tt tt (rw is at e) in (t .0, one-of (length p) x (t .1))
+
+  -- and answers
+  pub answered : {A : Type 0} (a : A) → r ≡ Accepted → accepted a ≡ onPanel most p (oneOf (length p) x) a
+  answered a is = let t = asked is in fits-told most p (oneOf (length p) x) a (t .0) (among-one (length p) x (t .1))
+
+  -- where it may not, the refusal is handed on whole
+  pub not-asked : {A : Type 0} (a : A) {f : Refusal} → r ≡ Refused f → refusalOf f ≡ onPanel most p (oneOf (length p) x) a
+  unfolding onPanel
+  not-asked a is = refusal-on (checkAs false most p) (oneOf (length p) x) a (rw is at e)
 
 -- ---- the port at a jack
 

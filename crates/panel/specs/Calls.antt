@@ -19,6 +19,10 @@ use Rattle.pattern_check.specs.Calls.{checkAs}
 unfoldable pub onPanel : {A : Type 0} → ℕ → List ℕ → Bool → A → Told A
 onPanel most p fits a = then (checkAs false most p) (λ ok. cond fits (accepted a) (refused 17 nowhere))
 
+-- whether the panel may be asked for a number: it must be one of 1..n
+abbrev pub mayAsk : ℕ → List ℕ → ℕ → Told (Unit {0})
+mayAsk most p x = onPanel most p (oneOf (length p) x) tt
+
 -- the port joined to jack j
 unfoldable pub portOf : ℕ → List ℕ → ℕ → Told ℕ
 portOf most p j = onPanel most p (oneOf (length p) j) (entry p j)
