@@ -7,6 +7,8 @@ use mathlib.Core.List.{List}
 use Prim.Native.Nat.{ℕ, zero, suc, _+_, _*_, _-_, _≤_, _<_}
 use native.Mathlib.Nat.{mul-le-mul-right}
 use native.Mathlib.Omega.{arith}
+use mir.Syntax.{w64}
+use mir.Val.{Fits}
 use lib.ListN.{take}
 use borrow.Author.Tests.{eq-eqb, ne-eqb}
 use Rattle.listing.specs.Numbers.{Among, before}
@@ -15,7 +17,7 @@ use Rattle.listing.specs.Count.{count}
 use Rattle.listing.specs.Steps.{Way, byA, byB, shorter, back, way}
 use Rattle.listing.specs.Rank.{perBlock, turned, rank}
 use Rattle.listing.specs.Reading.{other, comesFirst, passed}
-use Rattle.listing.specs.Limits.{mostPorts, largest64}
+use Rattle.listing.specs.Limits.{mostPorts}
 use Rattle.listing.proofs.Counts.{count-blocks}
 use Rattle.listing.proofs.Shorter.{end-fits, way-back}
 use Rattle.listing.proofs.Places.{turned-below}
@@ -23,7 +25,7 @@ use Rattle.listing.proofs.Ranks.{rank-below}
 use Rattle.listing.proofs.Reading.{rank-read}
 use Rattle.listing.proofs.Limits.{count-most}
 use Rattle.listing.proofs.Numbers.{less-one, less-two}
-use Rattle.pattern_steps.specs.Steps.{portsBefore, portsAfter, afterStep, Fits}
+use Rattle.pattern_steps.specs.Steps.{portsBefore, portsAfter, afterStep, MayStep}
 use Rattle.pattern_steps.specs.declared.steps.Step.{Step}
 use Rattle.pattern_ranks.specs.Levels.{cameOf, wayOf, endOf, backFrom, LevelOf}
 use Rattle.pattern_ranks.specs.declared.types.Level.{Level}
@@ -49,8 +51,11 @@ as-came c byA i e = rw e (refl, refl)
 as-came c byB i e = rw e (refl, refl)
 
 -- a pattern with a port has two
-pub two-jacks : {n : ℕ} {p : List ℕ} → n ≢ 0 → Derangement n p → 2 ≤ n
+two-jacks : {n : ℕ} {p : List ℕ} → n ≢ 0 → Derangement n p → 2 ≤ n
 two-jacks {n = n} {p = p} h D = two-ports h (rank-below n p D)
+
+pub two-known : {n : ℕ} {p : List ℕ} → n ≢ 0 → (n ≤ mostPorts) × Derangement n p → (2 ≤ n) × (n ≤ mostPorts) × Derangement n p
+two-known h known = (two-jacks h (known .1), known .0, known .1)
 
 -- the entry at the last jack is 1 to n - 1
 pub end-among : {n : ℕ} {p : List ℕ} {c : Came} → 2 ≤ n → Derangement n p → c ≡ cameOf (way n p) (entry p n) → Among (n - 1) (endOf c)
@@ -109,9 +114,9 @@ back-way : (c : Came) (n : ℕ) (p : List ℕ)
 back-way (ByA i) n p = (refl, less-one n, refl)
 back-way (ByB i) n p = (refl, less-two n, refl)
 
-pub back-fits : (c : Came) (n : ℕ) (p : List ℕ) {s : Step} → s ≡ backFrom c → Fits s n p
-back-fits (ByA i) n p e = rw e tt
-back-fits (ByB i) n p e = rw e tt
+pub back-may : (c : Came) (n : ℕ) (p : List ℕ) {s : Step} → s ≡ backFrom c → MayStep s n p
+back-may (ByA i) n p e = rw e tt
+back-may (ByB i) n p e = rw e tt
 
 -- the place is what is passed over and the place of the shorter pattern, in its list read forward or backward
 place-level : (forward : Bool) {n : ℕ} {p : List ℕ} {c : Came} → 2 ≤ n → Derangement n p → c ≡ cameOf (way n p) (entry p n)
@@ -144,15 +149,25 @@ unfolding count rank
 place-none true n p e = rw e
 place-none false n p e = rw e
 
--- with the place x of the shorter pattern, the sum is the place
-module _ {forward b : Bool} {n x : ℕ} {p : List ℕ} {l : Level} (here : LevelOf forward n p l) (e : l .forward ≡ b)
-    (ex : x ≡ turned b (count (l .ports)) (rank (l .ports) (take (l .ports) (l .pattern)))) where
-  pub level-sum : l .passed + x ≡ turned forward (count n) (rank n p)
-  level-sum =
-      let k = count (l .ports) in
-      let r = rank (l .ports) (take (l .ports) (l .pattern)) in
-      ap (λ (y : ℕ). l .passed + y) (ex ∙ ap (λ (side : Bool). turned side k r) (sym e)) ∙ sym (here .place)
+-- what holds once a level of a pattern with so many ports is known: the shorter pattern may be placed in turn, and with its place x the sum is the place, and fits 64 bits
+pub record Onward (forward : Bool) (n : ℕ) (p : List ℕ) (l : Level) (ports : ℕ) : Type 0 where
+  pub shorter : (l .ports < ports) × ((l .ports ≤ mostPorts) × Derangement (l .ports) (take (l .ports) (l .pattern)))
+  pub sum : {b : Bool} {x : ℕ} → l .forward ≡ b → x ≡ turned b (count (l .ports)) (rank (l .ports) (take (l .ports) (l .pattern)))
+      → l .passed + x ≡ turned forward (count n) (rank n p)
+  pub fits : {b : Bool} {x : ℕ} → l .forward ≡ b → x ≡ turned b (count (l .ports)) (rank (l .ports) (take (l .ports) (l .pattern)))
+      → Fits w64 (l .passed + x)
 
-  -- and fits 64 bits
-  pub level-fits : n ≤ mostPorts → Derangement n p → l .passed + x ≤ largest64
-  level-fits h D = omega (arith, level-sum, turned-below forward (count n) (rank n p) (rank-below n p D), count-most n h)
+pub onward : {forward : Bool} {n ports : ℕ} {p : List ℕ} {l : Level} → LevelOf forward n p l → n ≡ ports → (n ≤ mostPorts) × Derangement n p
+    → Onward forward n p l ports
+onward {forward = forward} {n = n} {p = p} {l = l} here e known =
+    record { shorter = (omega (arith, here .fewer), (omega (arith, here .fewer), here .pattern)); sum = total; fits = λ e ex. omega (arith, total e ex, below, count-most n (known .0)) }
+  where
+    below : turned forward (count n) (rank n p) < count n
+    below = turned-below forward (count n) (rank n p) (rank-below n p (known .1))
+
+    total : {b : Bool} {x : ℕ} → l .forward ≡ b → x ≡ turned b (count (l .ports)) (rank (l .ports) (take (l .ports) (l .pattern)))
+        → l .passed + x ≡ turned forward (count n) (rank n p)
+    total e ex =
+        let k = count (l .ports) in
+        let r = rank (l .ports) (take (l .ports) (l .pattern)) in
+        ap (λ (y : ℕ). l .passed + y) (ex ∙ ap (λ (side : Bool). turned side k r) (sym e)) ∙ sym (here .place)

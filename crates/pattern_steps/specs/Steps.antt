@@ -38,8 +38,8 @@ afterStep BackA n p = unA n p
 afterStep BackB n p = unB n p
 
 -- what B(i) asks besides: i is 1 to n - 1, and the ports that it raises fit a byte
-abbrev pub Fits : Step → ℕ → List ℕ → Type 0
-Fits (A i) n p = Unit {0}
-Fits (B i) n p = Among (n - 1) i × AtMost mostPorts (n - 2) p
-Fits BackA n p = Unit {0}
-Fits BackB n p = Unit {0}
+abbrev pub MayStep : Step → ℕ → List ℕ → Type 0
+MayStep (A i) n p = Unit {0}
+MayStep (B i) n p = Among (n - 1) i × AtMost mostPorts (n - 2) p
+MayStep BackA n p = Unit {0}
+MayStep BackB n p = Unit {0}

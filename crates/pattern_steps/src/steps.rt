@@ -11,7 +11,7 @@ ghost use Rattle.listing.specs.Numbers.{Among};
 ghost use Rattle.listing.specs.Steps.{byStepA, byStepB, byBackA, byBackB};
 ghost use Rattle.listing.specs.Limits.{mostPorts};
 ghost use Rattle.pattern_steps.specs.Entries.{AtMost};
-ghost use Rattle.pattern_steps.specs.Steps.{portsBefore, portsAfter, portAfter, afterStep, Fits};
+ghost use Rattle.pattern_steps.specs.Steps.{portsBefore, portsAfter, portAfter, afterStep, MayStep};
 
 // A step to a pattern of n ports from a shorter one, A(i) or B(i), or the step back.
 pub enum Step {
@@ -65,7 +65,7 @@ fn port_back_b(p: [u8; LONGEST], n: u8, j: u8) -> u8
 
 // The port at jack j of the pattern after a step.
 fn port_after(s: Step, p: [u8; LONGEST], n: u8, j: u8) -> u8
-    requires { ⌜ (n ≤ mostPorts) × Fits s n (take (portsBefore s n) p) × Among (portsAfter s n) j ⌝ }
+    requires { ⌜ (n ≤ mostPorts) × MayStep s n (take (portsBefore s n) p) × Among (portsAfter s n) j ⌝ }
     ensures { λ r. ⌜ r ≡ portAfter s n (take (portsBefore s n) p) j ⌝ }
 {
     match s {
@@ -91,7 +91,7 @@ pub fn ports_after(s: Step, n: u8) -> u8
 
 // The pattern after a step, filled jack by jack.
 pub fn after_step(s: Step, p: [u8; LONGEST], n: u8) -> [u8; LONGEST]
-    requires { ⌜ (2 ≤ n) × (n ≤ mostPorts) × Fits s n (take (portsBefore s n) p) ⌝ }
+    requires { ⌜ (2 ≤ n) × (n ≤ mostPorts) × MayStep s n (take (portsBefore s n) p) ⌝ }
     ensures { λ r. ⌜ take (portsAfter s n) r ≡ afterStep s n (take (portsBefore s n) p) ⌝ }
 {
     let ports = ports_after(s, n);

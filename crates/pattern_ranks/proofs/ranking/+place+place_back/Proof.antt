@@ -2,10 +2,10 @@
 -- Assumes nothing.
 use mathlib.Core.Bool.{true, false}
 use Prim.Native.Nat.{ℕ, _<_}
-use native.Mathlib.Omega.{arith}
+use lib.ListN.{take}
 use borrow.Fn.Kinds.{In}
 use borrow.Fn.PlainCycle.{Measures, is, falls, and}
-use Rattle.pattern_ranks.proofs.Passing.{two-jacks, place-none, level-sum, level-fits}
+use Rattle.pattern_ranks.proofs.Passing.{two-known, place-none, Onward, onward}
 use Rattle.pattern_ranks.proofs.ranking.place.Reads as place
 use Rattle.pattern_ranks.proofs.ranking.place.Kinds as place-kinds
 use Rattle.pattern_ranks.proofs.ranking.+place+place_back.Lts-place as place-lts
@@ -39,86 +39,33 @@ fewer-back t = and 0 place-back-kinds.ps (falls 0 place-back-kinds.ps _<_ ports-
 abbrev calls : ℕ → place-lts.Claims
 calls t = (level.Asked, level.Learnt, fewer t, place.Post, fewer-back t, place-back.Post)
 
--- ---- read forward
+-- what is known after a level, read forward and read backward
+on : (t : ℕ) (o : place-lts.After-level (calls t) (here t) place.Post) → let a = o .before .before .args in Onward true (a .n) (take (a .n) (a .p)) (o .level .result) t
+on t o = onward (o .level .ensures) (o .before .before .pre .0) (o .before .before .pre .1)
 
-place-returns : (t : ℕ) → place-lts.Need-returns (calls t) (here t) place.Post
-place-returns t c = place-none true (c .before .args .n) _ (c .if1 .taken)
-
-place-level-requires : (t : ℕ) → place-lts.Need-level-requires (calls t) (here t) place.Post
-place-level-requires t c κs = let s = c .before in (two-jacks (c .if1 .left) (s .pre .1 .1), s .pre .1 .0, s .pre .1 .1)
-
-place-place-requires : (t : ℕ) → place-lts.Need-place-requires (calls t) (here t) place.Post
-place-place-requires t c κs = let l = c .before .before .level .ensures in (omega arith, (omega arith, l .pattern))
-
-place-add-result : (t : ℕ) → place-lts.Need-add-result (calls t) (here t) place.Post
-place-add-result t c =
-    let f = c .before .before in
-    let s = f .before .before .before .before in
-    omega (arith, level-fits (f .before .before .level .ensures) (f .if2 .taken) (c .before .place .ensures) (s .pre .1 .0) (s .pre .1 .1))
-
-place-returns-2 : (t : ℕ) → place-lts.Need-returns-2 (calls t) (here t) place.Post
-place-returns-2 t c =
-    let f = c .before .before in
-    level-sum (f .before .before .level .ensures) (f .if2 .taken) (c .before .place .ensures)
-
-place-place-back-requires : (t : ℕ) → place-lts.Need-place-back-requires (calls t) (here t) place.Post
-place-place-back-requires t c κs = let l = c .before .before .level .ensures in (omega arith, (omega arith, l .pattern))
-
-place-add-result-2 : (t : ℕ) → place-lts.Need-add-result-2 (calls t) (here t) place.Post
-place-add-result-2 t c =
-    let f = c .before .before in
-    let s = f .before .before .before .before in
-    omega (arith, level-fits (f .before .before .level .ensures) (f .if2 .left) (c .before .place-back .ensures) (s .pre .1 .0) (s .pre .1 .1))
-
-place-returns-3 : (t : ℕ) → place-lts.Need-returns-3 (calls t) (here t) place.Post
-place-returns-3 t c =
-    let f = c .before .before in
-    level-sum (f .before .before .level .ensures) (f .if2 .left) (c .before .place-back .ensures)
-
--- ---- read backward
-
-place-back-returns : (t : ℕ) → place-back-lts.Need-returns (calls t) (here-back t) place-back.Post
-place-back-returns t c = place-none false (c .before .args .n) _ (c .if1 .taken)
-
-place-back-level-requires : (t : ℕ) → place-back-lts.Need-level-requires (calls t) (here-back t) place-back.Post
-place-back-level-requires t c κs = let s = c .before in (two-jacks (c .if1 .left) (s .pre .1 .1), s .pre .1 .0, s .pre .1 .1)
-
-place-back-place-requires : (t : ℕ) → place-back-lts.Need-place-requires (calls t) (here-back t) place-back.Post
-place-back-place-requires t c κs = let l = c .before .before .level .ensures in (omega arith, (omega arith, l .pattern))
-
-place-back-add-result : (t : ℕ) → place-back-lts.Need-add-result (calls t) (here-back t) place-back.Post
-place-back-add-result t c =
-    let f = c .before .before in
-    let s = f .before .before .before .before in
-    omega (arith, level-fits (f .before .before .level .ensures) (f .if2 .taken) (c .before .place .ensures) (s .pre .1 .0) (s .pre .1 .1))
-
-place-back-returns-2 : (t : ℕ) → place-back-lts.Need-returns-2 (calls t) (here-back t) place-back.Post
-place-back-returns-2 t c =
-    let f = c .before .before in
-    level-sum (f .before .before .level .ensures) (f .if2 .taken) (c .before .place .ensures)
-
-place-back-place-back-requires : (t : ℕ) → place-back-lts.Need-place-back-requires (calls t) (here-back t) place-back.Post
-place-back-place-back-requires t c κs = let l = c .before .before .level .ensures in (omega arith, (omega arith, l .pattern))
-
-place-back-add-result-2 : (t : ℕ) → place-back-lts.Need-add-result-2 (calls t) (here-back t) place-back.Post
-place-back-add-result-2 t c =
-    let f = c .before .before in
-    let s = f .before .before .before .before in
-    omega (arith, level-fits (f .before .before .level .ensures) (f .if2 .left) (c .before .place-back .ensures) (s .pre .1 .0) (s .pre .1 .1))
-
-place-back-returns-3 : (t : ℕ) → place-back-lts.Need-returns-3 (calls t) (here-back t) place-back.Post
-place-back-returns-3 t c =
-    let f = c .before .before in
-    level-sum (f .before .before .level .ensures) (f .if2 .left) (c .before .place-back .ensures)
-
--- ---- both
+on-back : (t : ℕ) (o : place-back-lts.After-level (calls t) (here-back t) place-back.Post) → let a = o .before .before .args in Onward false (a .n) (take (a .n) (a .p)) (o .level .result) t
+on-back t o = onward (o .level .ensures) (o .before .before .pre .0) (o .before .before .pre .1)
 
 pub +place+place-back-spec : {M : Type 1} → statement M
 +place+place-back-spec =
     close ports ports-back
     (λ t.
-    place-lts.spec (calls t) (here t) place.Post (place-returns t) (place-level-requires t) (place-place-requires t) (place-add-result t) (place-returns-2 t)
-    (place-place-back-requires t) (place-add-result-2 t) (place-returns-3 t))
+    place-lts.spec (calls t) (here t) place.Post
+    (λ c. place-none true (c .before .args .n) _ (c .if1 .taken))
+    (λ c κs. two-known (c .if1 .left) (c .before .pre .1))
+    (λ c κs. on t (c .before .before) .shorter)
+    (λ c. on t (c .before .before .before .before) .fits (c .before .before .if2 .taken) (c .before .place .ensures))
+    (λ c. on t (c .before .before .before .before) .sum (c .before .before .if2 .taken) (c .before .place .ensures))
+    (λ c κs. on t (c .before .before) .shorter)
+    (λ c. on t (c .before .before .before .before) .fits (c .before .before .if2 .left) (c .before .place-back .ensures))
+    (λ c. on t (c .before .before .before .before) .sum (c .before .before .if2 .left) (c .before .place-back .ensures)))
     (λ t.
-    place-back-lts.spec (calls t) (here-back t) place-back.Post (place-back-returns t) (place-back-level-requires t) (place-back-place-requires t)
-    (place-back-add-result t) (place-back-returns-2 t) (place-back-place-back-requires t) (place-back-add-result-2 t) (place-back-returns-3 t))
+    place-back-lts.spec (calls t) (here-back t) place-back.Post
+    (λ c. place-none false (c .before .args .n) _ (c .if1 .taken))
+    (λ c κs. two-known (c .if1 .left) (c .before .pre .1))
+    (λ c κs. on-back t (c .before .before) .shorter)
+    (λ c. on-back t (c .before .before .before .before) .fits (c .before .before .if2 .taken) (c .before .place .ensures))
+    (λ c. on-back t (c .before .before .before .before) .sum (c .before .before .if2 .taken) (c .before .place .ensures))
+    (λ c κs. on-back t (c .before .before) .shorter)
+    (λ c. on-back t (c .before .before .before .before) .fits (c .before .before .if2 .left) (c .before .place-back .ensures))
+    (λ c. on-back t (c .before .before .before .before) .sum (c .before .before .if2 .left) (c .before .place-back .ensures)))

@@ -2,7 +2,7 @@
 -- Assumes nothing.
 use native.Mathlib.Omega.{arith}
 use borrow.Author.Needs.{needs}
-use Rattle.pattern_ranks.proofs.Passing.{end-among, back-fits, level-of}
+use Rattle.pattern_ranks.proofs.Passing.{end-among, back-may, level-of}
 use Rattle.pattern_ranks.proofs.ranking.level.Statement.{statement}
 use Rattle.pattern_ranks.proofs.ranking.level.Tie as tie
 
@@ -18,7 +18,7 @@ after-step-requires : tie.Need-after-step-requires
 after-step-requires c κs =
     let b = c .before .before .before in
     let s = b .before .before in
-    (s .pre .0, s .pre .1, back-fits (b .before .came .result) (s .args .n) _ (b .back-from .ensures))
+    (s .pre .0, s .pre .1, back-may (b .before .came .result) (s .args .n) _ (b .back-from .ensures))
 
 returns : tie.Need-returns
 returns c =
