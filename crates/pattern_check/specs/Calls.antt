@@ -1,14 +1,18 @@
 -- What the check tells (the paper, 'Refusal numbers': length comes before all). The most ports of the device is a parameter.
 -- Assumes nothing.
 use Prim.Native.Nat.{ℕ}
-use mathlib.Core.Bool.{Bool, true, cond}
+use mathlib.Core.Bool.{Bool, true, false, cond}
 use mathlib.Core.List.{List}
 use lib.Dec.{leb}
 use lib.ListN.{length}
 use Rattle.words.specs.Told.{Told, refused, nowhere}
 use Rattle.pattern_check.specs.Faults.{faultOf, faultTold}
 
--- refusal 1 unless the ports are 2 to most
+-- whether the ports are 2 to most
+unfoldable pub inSize : ℕ → ℕ → Bool
+inSize most n = cond (leb 2 n) (leb n most) false
+
+-- refusal 1 unless they are
 unfoldable pub sized : {A : Type 0} → ℕ → ℕ → Told A → Told A
 sized most n t = cond (leb 2 n) (cond (leb n most) t (refused 1 nowhere)) (refused 1 nowhere)
 

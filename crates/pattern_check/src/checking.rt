@@ -14,8 +14,8 @@ ghost use Prim.Native.Nat.{_≤_};
 ghost use lib.ListN.{length};
 ghost use Rattle.words.specs.Meaning.{outcomeTold};
 ghost use Rattle.listing.specs.Limits.{mostPorts};
-ghost use Rattle.pattern_check.specs.Faults.{faultOf};
-ghost use Rattle.pattern_check.specs.Calls.{checkAs};
+ghost use Rattle.pattern_check.specs.Faults.{faultOf, faultTold};
+ghost use Rattle.pattern_check.specs.Calls.{inSize, checkAs};
 ghost use Rattle.pattern_check.specs.Answers.{faultIs};
 
 // The first fault of p: as a pattern, or as a panel, where a port may stand at its own jack.
@@ -57,18 +57,21 @@ pub fn fault(p: &[u8], pattern: bool) -> Fault
     found
 }
 
-// Whether p is a pattern, or else a panel, of 2 to 20 ports.
-fn check_as(p: &[u8], pattern: bool) -> Outcome
-    ensures { λ r. ⌜ outcomeTold r ≡ checkAs pattern mostPorts (now (p .entry)) ⌝ }
+// Whether so many ports are 2 to 20.
+pub fn in_size(ports: usize) -> bool
+    ensures { λ r. ⌜ r ≡ inSize mostPorts ports ⌝ }
 {
-    let n = p.len();
-    if n < SHORTEST {
-        return Outcome::Refused(nowhere(Reason::Ports));
+    if ports < SHORTEST {
+        return false;
     }
-    if LONGEST < n {
-        return Outcome::Refused(nowhere(Reason::Ports));
-    }
-    match fault(p, pattern) {
+    ports <= LONGEST
+}
+
+// The refusal of a fault: its number, at the jack at fault.
+fn refusal_of(f: Fault) -> Outcome
+    ensures { λ r. ⌜ outcomeTold r ≡ faultTold (faultIs f) tt ⌝ }
+{
+    match f {
         Fault::Sound => Outcome::Accepted,
         Fault::Outside(j) => Outcome::Refused(Refusal {
             reason: Reason::Outside,
@@ -83,6 +86,16 @@ fn check_as(p: &[u8], pattern: bool) -> Outcome
             place: Place::AtJack(j),
         }),
     }
+}
+
+// Whether p is a pattern, or else a panel, of 2 to 20 ports.
+fn check_as(p: &[u8], pattern: bool) -> Outcome
+    ensures { λ r. ⌜ outcomeTold r ≡ checkAs pattern mostPorts (now (p .entry)) ⌝ }
+{
+    if !in_size(p.len()) {
+        return Outcome::Refused(nowhere(Reason::Ports));
+    }
+    refusal_of(fault(p, pattern))
 }
 
 // Whether p is a pattern of 2 to 20 ports.

@@ -2,12 +2,16 @@
 use words::Jack;
 use words::Move;
 use words::Order;
+use words::limits::FEWEST_PORTS;
 ghost use mathlib.Core.Path.{_≡_};
 ghost use Prim.Native.Nat.{_-_, _≤_};
 ghost use Rattle.listing.specs.Numbers.{Among};
 ghost use Rattle.listing.specs.Joins.{hopA, hopB, hop, join, closing};
 ghost use Rattle.listing.specs.Limits.{mostPorts};
 ghost use Rattle.words.specs.Meaning.{moveOf};
+
+// Relation (8) is for so many ports or more: relation (7) has the joins for 4.
+const FEWEST_IN_EIGHT: u8 = 5;
 
 // From A(i) to A(i+1) of the first pattern of n - 1: relation (5).
 fn hop_a(n: u8, i: u8) -> Move
@@ -80,7 +84,7 @@ pub fn join(n: u8, i: u8) -> Move
     requires { ⌜ (4 ≤ n) × (n ≤ mostPorts) × Among (n - 1) i ⌝ }
     ensures { λ r. ⌜ moveOf r ≡ join n i ⌝ }
 {
-    if n < 5 {
+    if n < FEWEST_IN_EIGHT {
         return join_of_four(i);
     }
     match i {
@@ -102,7 +106,7 @@ pub fn closing(n: u8) -> Move
     requires { ⌜ (2 ≤ n) × (n ≤ mostPorts) ⌝ }
     ensures { λ r. ⌜ moveOf r ≡ closing n ⌝ }
 {
-    if n == 2 {
+    if n == FEWEST_PORTS {
         return Move::Nothing;
     }
     if n % 2 == 1 {

@@ -11,6 +11,7 @@ use pattern_steps::counts::count_of;
 use words::Jack;
 use words::Move;
 use words::Order;
+use words::limits::FEWEST_PORTS;
 ghost use mathlib.Core.Path.{_≡_};
 ghost use mathlib.Core.Bool.{cond};
 ghost use Prim.Native.Nat.{_≤_, _<_};
@@ -20,6 +21,9 @@ ghost use Rattle.listing.specs.Orders.{inverse};
 ghost use Rattle.listing.specs.Neighbours.{nextMove, previousMove, previousRank, moveBeside};
 ghost use Rattle.words.specs.Meaning.{moveOf};
 ghost use Rattle.pattern_moves.specs.Lead.{rowMove, RowIn};
+
+// The tables are for so many ports or more.
+const FEWEST_IN_TABLES: u8 = 4;
 
 // The move in a row of the tables.
 fn row_move(n: u8, w: Row) -> Move
@@ -45,8 +49,8 @@ fn least_move(n: u8, r: u64) -> Move
     requires { ⌜ (2 ≤ n) × (n ≤ 3) ⌝ }
     ensures { λ m. ⌜ moveOf m ≡ nextMove n r ⌝ }
 {
-    if n == 2 {
-        return closing(2);
+    if n == FEWEST_PORTS {
+        return closing(FEWEST_PORTS);
     }
     if r == 0 {
         return Move::One(Order::Turn(Jack(1), Jack(2), Jack(3)));
@@ -59,7 +63,7 @@ pub fn next_move(n: u8, r: u64) -> Move
     requires { ⌜ (2 ≤ n) × (n ≤ mostPorts) × (r < count n) ⌝ }
     ensures { λ m. ⌜ moveOf m ≡ nextMove n r ⌝ }
 {
-    if n < 4 {
+    if n < FEWEST_IN_TABLES {
         return least_move(n, r);
     }
     let w = onward(n, r);

@@ -1,12 +1,16 @@
 // The counts and the sizes of blocks, up to 20 ports.
+use words::limits::LONGEST;
 ghost use mathlib.Core.Path.{_≡_};
 ghost use Prim.Native.Nat.{_≤_};
 ghost use Rattle.listing.specs.Count.{count};
 ghost use Rattle.listing.specs.Rank.{perBlock};
 ghost use Rattle.listing.specs.Limits.{mostPorts};
 
+// A count for each number of ports, from none to the most.
+const ROWS: usize = LONGEST + 1;
+
 // The counts for 0 to 20 ports.
-const COUNTS: [u64; 21] = [
+const COUNTS: [u64; ROWS] = [
     1,
     0,
     1,

@@ -1,10 +1,13 @@
--- Laws of the calls' definitions: refusal 6, or what comes after it.
+-- Laws of the calls' definitions: refusal 6, or what comes after it; and both after refusal 1.
 -- Assumes nothing.
-use mathlib.Core.Path.{_≡_}
+use mathlib.Core.Path.{_≡_, _∙_}
+use mathlib.Core.Bool.{Bool, false, not}
 use Prim.Native.Nat.{ℕ, _≤_, _<_}
 use borrow.Author.Tests.{lt-ltb, le-ltb}
 use Rattle.listing.specs.Count.{count}
 use Rattle.words.specs.Told.{Told, refused, nowhere}
+use Rattle.pattern_check.specs.Calls.{inSize, sized}
+use Rattle.pattern_check.proofs.Calls.{in-size}
 use Rattle.patterns.specs.Calls.{ranked}
 
 module _ {A : Type 0} (n r : ℕ) (t : Told A) where
@@ -15,3 +18,11 @@ module _ {A : Type 0} (n r : ℕ) (t : Told A) where
   pub no-rank : count n ≤ r → ranked n r t ≡ refused 6 nowhere
   unfolding ranked
   no-rank h = rw (le-ltb r (count n) h)
+
+-- ports of a size, as the code tests them, and then the rank
+module _ {A : Type 0} (most n r : ℕ) (t : Told A) {size : Bool} {total : ℕ} (e : size ≡ inSize most n) (h : not size ≡ false) (c : total ≡ count n) where
+  pub listed : r < total → sized most n (ranked n r t) ≡ t
+  listed k = in-size most n (ranked n r t) e h ∙ is-rank n r t (rw c at k)
+
+  pub unlisted : total ≤ r → sized most n (ranked n r t) ≡ refused 6 nowhere
+  unlisted k = in-size most n (ranked n r t) e h ∙ no-rank n r t (rw c at k)

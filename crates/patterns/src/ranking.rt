@@ -2,6 +2,7 @@
 use pattern_carry::panels::load;
 use pattern_carry::panels::store;
 use pattern_check::checking::check;
+use pattern_check::checking::in_size;
 use pattern_ranks::ranking::place;
 use pattern_ranks::unranking::pattern_of;
 use pattern_steps::counts::count_of;
@@ -30,10 +31,7 @@ pub fn unrank(rank: u64, out: &mut [u8]) -> Outcome
     ensures bytes { λ _. ⌜ now (out .exit) ≡ unrankBytes mostPorts rank (now (out .entry)) ⌝ }
 {
     let ports = out.len();
-    if ports < 2 {
-        return Outcome::Refused(nowhere(Reason::Ports));
-    }
-    if 20 < ports {
+    if !in_size(ports) {
         return Outcome::Refused(nowhere(Reason::Ports));
     }
     let n = ports as u8;
