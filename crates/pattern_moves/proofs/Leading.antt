@@ -17,10 +17,10 @@ use Rattle.listing.proofs.Numbers.{odd-rest}
 use Rattle.listing.proofs.Limits.{count-most}
 use Rattle.listing.proofs.Ranks.{perBlock-pos, block-among}
 use Rattle.listing.proofs.Neighbours.{move-rule}
-use Rattle.pattern_moves.specs.Lead.{stepMove, Inside, LeadsOn}
+use Rattle.pattern_moves.specs.Lead.{passageMove, Inside, LeadsOn}
 use Rattle.pattern_moves.specs.declared.onward.Row.the-variants.{Join, Hop, Closing}
-use Rattle.pattern_moves.specs.declared.onward.Step.{Step}
-use Rattle.pattern_moves.specs.declared.onward.Step.the-variants.{ByA, ByTable, ByB}
+use Rattle.pattern_moves.specs.declared.onward.Passage.{Passage}
+use Rattle.pattern_moves.specs.declared.onward.Passage.the-variants.{ByA, ByTable, ByB}
 use Rattle.pattern_moves.specs.declared.onward.Lead.{Lead}
 use Rattle.listing.proofs.Numbers.{less-one, less-two}
 
@@ -76,7 +76,7 @@ module _ (n i u a : ℕ) (all : a ≡ count (n - 1)) where
 
 module _ (n i s : ℕ) where
   -- in an odd block
-  pub on-odd : (x : Step) → s + 1 < perBlock n → i % 2 ≡ 1 → Inside n i s x → LeadsOn n i s (record { step = x; back = false })
+  pub on-odd : (x : Passage) → s + 1 < perBlock n → i % 2 ≡ 1 → Inside n i s x → LeadsOn n i s (record { passage = x; back = false })
   unfolding onFrom
   on-odd x h o l =
       record {
@@ -85,7 +85,7 @@ module _ (n i s : ℕ) where
       }
 
   -- in an even block
-  pub on-even : (x : Step) → s + 1 < perBlock n → i % 2 ≢ 1 → Inside n i (perBlock n - 1 - (s + 1)) x → LeadsOn n i s (record { step = x; back = true })
+  pub on-even : (x : Passage) → s + 1 < perBlock n → i % 2 ≢ 1 → Inside n i (perBlock n - 1 - (s + 1)) x → LeadsOn n i s (record { passage = x; back = true })
   unfolding onFrom
   on-even x h o l =
       let e : perBlock n - 1 - (s + 1) ≡ perBlock n - suc (suc s) = omega arith in
@@ -97,12 +97,12 @@ module _ (n i s : ℕ) where
       }
 
   -- at the end of the last block
-  pub on-closing : perBlock n ≤ s + 1 → i + 1 ≡ n → LeadsOn n i s (record { step = ByTable Closing; back = false })
+  pub on-closing : perBlock n ≤ s + 1 → i + 1 ≡ n → LeadsOn n i s (record { passage = ByTable Closing; back = false })
   unfolding onFrom
   on-closing h e = record { says = λ f g. rw (le-ltb (suc s) (perBlock n) (omega arith), eq-eqb (suc i) n (omega arith)); within = tt }
 
   -- at the end of any other
-  pub on-hop : perBlock n ≤ s + 1 → i + 1 ≢ n → Among (n - 1) i → LeadsOn n i s (record { step = ByTable (Hop i); back = false })
+  pub on-hop : perBlock n ≤ s + 1 → i + 1 ≢ n → Among (n - 1) i → LeadsOn n i s (record { passage = ByTable (Hop i); back = false })
   unfolding onFrom
   on-hop h d fits =
       record { says = λ f g. rw (le-ltb (suc s) (perBlock n) (omega arith), ne-eqb (suc i) n (omega arith)); within = omega arith }
@@ -131,6 +131,6 @@ next-rule (suc (suc (suc (suc x)))) r h =
 
 -- the move that a lead says, from the moves of the two shorter lists
 pub lead-next : (n r : ℕ) (w : Lead) (v : Move) → 4 ≤ n → LeadsOn n (suc (r / perBlock n)) (r % perBlock n) w
-    → v ≡ stepMove n (nextMove (n - 1)) (nextMove (n - 2)) (w .step) → cond (w .back) (inverse v) v ≡ nextMove n r
+    → v ≡ passageMove n (nextMove (n - 1)) (nextMove (n - 2)) (w .passage) → cond (w .back) (inverse v) v ≡ nextMove n r
 lead-next n r w v h l e =
     ap (λ (x : Move). cond (w .back) (inverse x) x) e ∙ l .says (nextMove (n - 1)) (nextMove (n - 2)) ∙ sym (next-rule n r h)

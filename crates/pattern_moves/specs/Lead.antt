@@ -10,8 +10,8 @@ use Rattle.listing.specs.Joins.{join, hop, closing}
 use Rattle.listing.specs.Neighbours.{inside, onFrom}
 use Rattle.pattern_moves.specs.declared.onward.Row.{Row}
 use Rattle.pattern_moves.specs.declared.onward.Row.the-variants.{Join, Hop, Closing}
-use Rattle.pattern_moves.specs.declared.onward.Step.{Step}
-use Rattle.pattern_moves.specs.declared.onward.Step.the-variants.{ByA, ByTable, ByB}
+use Rattle.pattern_moves.specs.declared.onward.Passage.{Passage}
+use Rattle.pattern_moves.specs.declared.onward.Passage.the-variants.{ByA, ByTable, ByB}
 use Rattle.pattern_moves.specs.declared.onward.Lead.{Lead}
 
 -- the move in a row of the tables for n
@@ -26,28 +26,28 @@ RowIn n (Join i) = Among (n - 1) i
 RowIn n (Hop i) = Among (n - 2) i
 RowIn n Closing = Unit {0}
 
--- the move that a step is. (shortA and shortB: the moves of the lists for n - 1 and n - 2)
-abbrev pub stepMove : ℕ → (ℕ → Move) → (ℕ → Move) → Step → Move
-stepMove n shortA shortB (ByA s) = shortA s
-stepMove n shortA shortB (ByTable w) = rowMove n w
-stepMove n shortA shortB (ByB i s) = inverse (raised i (shortB s))
+-- the move that a passage is. (shortA and shortB: the moves of the lists for n - 1 and n - 2)
+abbrev pub passageMove : ℕ → (ℕ → Move) → (ℕ → Move) → Passage → Move
+passageMove n shortA shortB (ByA s) = shortA s
+passageMove n shortA shortB (ByTable w) = rowMove n w
+passageMove n shortA shortB (ByB i s) = inverse (raised i (shortB s))
 
 -- its numbers are blocks and ranks of those lists
-abbrev pub StepIn : ℕ → Step → Type 0
-StepIn n (ByA s) = s < count (n - 1)
-StepIn n (ByTable w) = RowIn n w
-StepIn n (ByB i s) = Among (n - 1) i × (s < count (n - 2))
+abbrev pub PassageIn : ℕ → Passage → Type 0
+PassageIn n (ByA s) = s < count (n - 1)
+PassageIn n (ByTable w) = RowIn n w
+PassageIn n (ByB i s) = Among (n - 1) i × (s < count (n - 2))
 
 -- the move, turned round where that is said
 abbrev pub leadMove : ℕ → (ℕ → Move) → (ℕ → Move) → Lead → Move
-leadMove n shortA shortB w = cond (w .back) (inverse (stepMove n shortA shortB (w .step))) (stepMove n shortA shortB (w .step))
+leadMove n shortA shortB w = cond (w .back) (inverse (passageMove n shortA shortB (w .passage))) (passageMove n shortA shortB (w .passage))
 
--- the step says which move leads on from place u of block i, the block read as an odd one
-pub record Inside (n i u : ℕ) (s : Step) : Type 0 where
-  pub says : (shortA shortB : ℕ → Move) → stepMove n shortA shortB s ≡ inside n i shortA shortB u
-  pub within : StepIn n s
+-- the passage says which move leads on from place u of block i, the block read as an odd one
+pub record Inside (n i u : ℕ) (s : Passage) : Type 0 where
+  pub says : (shortA shortB : ℕ → Move) → passageMove n shortA shortB s ≡ inside n i shortA shortB u
+  pub within : PassageIn n s
 
 -- the numbers say which move leads on from place s of block i
 pub record LeadsOn (n i s : ℕ) (w : Lead) : Type 0 where
   pub says : (shortA shortB : ℕ → Move) → leadMove n shortA shortB w ≡ onFrom n shortA shortB i s
-  pub within : StepIn n (w .step)
+  pub within : PassageIn n (w .passage)

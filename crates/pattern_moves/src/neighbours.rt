@@ -1,6 +1,6 @@
 // The move from the pattern of a rank to its neighbours round the circuit.
+use crate::onward::Passage;
 use crate::onward::Row;
-use crate::onward::Step;
 use crate::onward::onward;
 use pattern_joins::changes::inverse_of;
 use pattern_joins::changes::raised_by;
@@ -68,11 +68,11 @@ pub fn next_move(n: u8, r: u64) -> Move
     }
     let w = onward(n, r);
     let back = w.back;
-    let step = w.step;
-    match step {
-        Step::ByA(s) => inverse_if(back, next_move(n - 1, s)),
-        Step::ByTable(row) => inverse_if(back, row_move(n, row)),
-        Step::ByB(i, s) => inverse_if(back, inverse_of(raised_by(i, next_move(n - 2, s)))),
+    let passage = w.passage;
+    match passage {
+        Passage::ByA(s) => inverse_if(back, next_move(n - 1, s)),
+        Passage::ByTable(row) => inverse_if(back, row_move(n, row)),
+        Passage::ByB(i, s) => inverse_if(back, inverse_of(raised_by(i, next_move(n - 2, s)))),
     }
 }
 

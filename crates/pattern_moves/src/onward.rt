@@ -16,7 +16,7 @@ pub enum Row {
 }
 
 // Where a move comes from: the list for n - 1, at a rank there; the tables; or the list for n - 2, at a rank there, among the jacks without i and backward.
-pub enum Step {
+pub enum Passage {
     ByA(u64),
     ByTable(Row),
     ByB(u8, u64),
@@ -24,24 +24,24 @@ pub enum Step {
 
 // Where a move comes from, and whether it is turned round.
 pub struct Lead {
-    pub step: Step,
+    pub passage: Passage,
     pub back: bool,
 }
 
 // Inside block i, the block read as an odd one: from place u to the next.
-fn inside_step(n: u8, i: u8, u: u64) -> Step
+fn inside_step(n: u8, i: u8, u: u64) -> Passage
     requires { ⌜ (4 ≤ n) × (n ≤ mostPorts) × Among (n - 1) i × (u + 1 < perBlock n) ⌝ }
     ensures { λ s. ⌜ Inside n i u s ⌝ }
 {
     let by_a = count_of(n - 1);
     let next = u + 1;
     if next < by_a {
-        return Step::ByA(u);
+        return Passage::ByA(u);
     }
     if next == by_a {
-        return Step::ByTable(Row::Join(i));
+        return Passage::ByTable(Row::Join(i));
     }
-    Step::ByB(i, block_size(n) - 1 - next)
+    Passage::ByB(i, block_size(n) - 1 - next)
 }
 
 // From place s of block i: inside the block, an even block being an odd one read backwards, or from its end.
@@ -54,23 +54,23 @@ fn block_step(n: u8, i: u8, s: u64) -> Lead
     if next < size {
         if i % 2 == 1 {
             return Lead {
-                step: inside_step(n, i, s),
+                passage: inside_step(n, i, s),
                 back: false,
             };
         }
         return Lead {
-            step: inside_step(n, i, size - 1 - next),
+            passage: inside_step(n, i, size - 1 - next),
             back: true,
         };
     }
     if i + 1 == n {
         return Lead {
-            step: Step::ByTable(Row::Closing),
+            passage: Passage::ByTable(Row::Closing),
             back: false,
         };
     }
     Lead {
-        step: Step::ByTable(Row::Hop(i)),
+        passage: Passage::ByTable(Row::Hop(i)),
         back: false,
     }
 }

@@ -55,17 +55,17 @@ calls t = (
 -- ---- the ranks in the shorter lists, and the rows of the tables
 
 next-move-requires : (t : ℕ) → lts.Need-next-move-requires (calls t) (here t) reads.Post
-next-move-requires t c κs = let rank = rw (c .before .step .given .1) at (c .before .before .before .onward .ensures .within) in omega arith
+next-move-requires t c κs = let rank = rw (c .before .passage .given .1) at (c .before .before .before .onward .ensures .within) in omega arith
 
 row-move-requires : (t : ℕ) → lts.Need-row-move-requires (calls t) (here t) reads.Post
-row-move-requires t c κs = (omega arith, omega arith, rw (c .before .step2 .given .1) at (c .before .before .before .onward .ensures .within))
+row-move-requires t c κs = (omega arith, omega arith, rw (c .before .passage2 .given .1) at (c .before .before .before .onward .ensures .within))
 
 next-move-requires-2 : (t : ℕ) → lts.Need-next-move-requires-2 (calls t) (here t) reads.Post
-next-move-requires-2 t c κs = let rank = rw (c .before .step3 .given .1) at (c .before .before .before .onward .ensures .within) in omega arith
+next-move-requires-2 t c κs = let rank = rw (c .before .passage3 .given .1) at (c .before .before .before .onward .ensures .within) in omega arith
 
 raised-by-requires : (t : ℕ) → lts.Need-raised-by-requires (calls t) (here t) reads.Post
 raised-by-requires t c κs =
-    let rank = rw (c .before .before .step3 .given .1) at (c .before .before .before .before .onward .ensures .within) in
+    let rank = rw (c .before .before .passage3 .given .1) at (c .before .before .before .before .onward .ensures .within) in
     rw (c .next-move2 .ensures) (next-fits _ _ (omega arith) (omega arith) (rank .1))
 
 -- ---- the answers
@@ -75,14 +75,14 @@ returns-2 t c =
     let led = c .before .before .before .before .before .onward in
     c .inverse-if .ensures
     ∙ lead-next _ _ (led .result) (moveOf (c .before .next-move .result)) (omega arith) (led .ensures)
-    (rw (c .before .before .before .step .given .1) (c .before .next-move .ensures))
+    (rw (c .before .before .before .passage .given .1) (c .before .next-move .ensures))
 
 returns-3 : (t : ℕ) → lts.Need-returns-3 (calls t) (here t) reads.Post
 returns-3 t c =
     let led = c .before .before .before .before .before .onward in
     c .inverse-if2 .ensures
     ∙ lead-next _ _ (led .result) (moveOf (c .before .row-move .result)) (omega arith) (led .ensures)
-    (rw (c .before .before .before .step2 .given .1) (c .before .row-move .ensures))
+    (rw (c .before .before .before .passage2 .given .1) (c .before .row-move .ensures))
 
 returns-4 : (t : ℕ) → lts.Need-returns-4 (calls t) (here t) reads.Post
 returns-4 t c =
@@ -90,7 +90,7 @@ returns-4 t c =
     let led = c .before .before .before .before .before .before .before .onward in
     c .inverse-if3 .ensures
     ∙ lead-next _ _ (led .result) (moveOf (c .before .inverse-of .result)) (omega arith) (led .ensures)
-    (rw (c .before .before .before .before .before .step3 .given .1) (c .before .inverse-of .ensures ∙ ap inverse raised-move))
+    (rw (c .before .before .before .before .before .passage3 .given .1) (c .before .inverse-of .ensures ∙ ap inverse raised-move))
 
 pub +next-move-spec : {M : Type 1} → statement M
 +next-move-spec =
