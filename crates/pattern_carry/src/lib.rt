@@ -5,15 +5,14 @@ use words::Jack;
 use words::Move;
 use words::Order;
 ghost use mathlib.Core.Path.{_≡_};
-ghost use mathlib.Core.Logic.{_≢_};
 ghost use lib.ListN.{length};
-ghost use Rattle.listing.specs.Numbers.{Among};
 ghost use Rattle.listing.specs.Orders.{swap, carry, moved, InShape, InForm};
 ghost use Rattle.words.specs.Meaning.{orderOf, moveOf};
+ghost use Rattle.pattern_carry.specs.Panels.{Swappable};
 
 // The ports of two jacks exchanged.
 fn swap_entries(p: &mut [u8], a: Jack, b: Jack)
-    requires { ⌜ Among (length (now p)) (a .0) × Among (length (now p)) (b .0) × (a .0 ≢ b .0) ⌝ }
+    requires { ⌜ Swappable (now p) (a .0) (b .0) ⌝ }
     ensures { λ _. ⌜ now (p .exit) ≡ carry (swap (a .0) (b .0)) (now (p .entry)) ⌝ }
 {
     let x = (a.0 - 1) as usize;
@@ -23,6 +22,15 @@ fn swap_entries(p: &mut [u8], a: Jack, b: Jack)
     p[y] = held;
 }
 
+// Two swaps, one after the other.
+fn swap_twice(p: &mut [u8], a: Jack, b: Jack, c: Jack, d: Jack)
+    requires { ⌜ Swappable (now p) (a .0) (b .0) × Swappable (now p) (c .0) (d .0) ⌝ }
+    ensures { λ _. ⌜ now (p .exit) ≡ carry (swap (c .0) (d .0)) (carry (swap (a .0) (b .0)) (now (p .entry))) ⌝ }
+{
+    swap_entries(p, a, b);
+    swap_entries(p, c, d);
+}
+
 // An order on the panel: a turn is the swap of its first two jacks and then of its last two.
 pub fn carry_order(o: Order, p: &mut [u8])
     requires { ⌜ InShape (length (now p)) (orderOf o) ⌝ }
@@ -30,10 +38,7 @@ pub fn carry_order(o: Order, p: &mut [u8])
 {
     match o {
         Order::Swap(a, b) => swap_entries(p, a, b),
-        Order::Turn(a, b, c) => {
-            swap_entries(p, a, b);
-            swap_entries(p, b, c);
-        }
+        Order::Turn(a, b, c) => swap_twice(p, a, b, b, c),
     }
 }
 
@@ -45,9 +50,6 @@ pub fn carry_move(m: Move, p: &mut [u8])
     match m {
         Move::Nothing => {}
         Move::One(o) => carry_order(o, p),
-        Move::Two(a, b, c, d) => {
-            swap_entries(p, a, b);
-            swap_entries(p, c, d);
-        }
+        Move::Two(a, b, c, d) => swap_twice(p, a, b, c, d),
     }
 }
