@@ -1,4 +1,5 @@
 // A move turned round, and a move on the jacks of a longer pattern.
+use pattern_steps::numbers::raised;
 use words::Jack;
 use words::Move;
 use words::Order;
@@ -28,7 +29,7 @@ fn raised_jack(i: u8, a: Jack) -> Jack
     requires { ⌜ a .0 ≤ mostPorts ⌝ }
     ensures { λ r. ⌜ r .0 ≡ raise i (a .0) ⌝ }
 {
-    if i <= a.0 { Jack(a.0 + 1) } else { a }
+    Jack(raised(i, a.0))
 }
 
 // An order among the jacks without i.

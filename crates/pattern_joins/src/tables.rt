@@ -1,4 +1,5 @@
 // The tables of the moves between the parts of the list, by n and the block number i: relations (3), (5), (7), (8) and the closing step.
+use pattern_steps::numbers::is_odd;
 use words::Jack;
 use words::Move;
 use words::Order;
@@ -40,7 +41,7 @@ pub fn hop(n: u8, i: u8) -> Move
     requires { ⌜ (4 ≤ n) × (n ≤ mostPorts) × Among (n - 2) i ⌝ }
     ensures { λ r. ⌜ moveOf r ≡ hop n i ⌝ }
 {
-    if i % 2 == 1 { hop_b(n, i) } else { hop_a(n, i) }
+    if is_odd(i) { hop_b(n, i) } else { hop_a(n, i) }
 }
 
 // Inside block i of the list for 4 ports: relation (7).
@@ -60,7 +61,7 @@ fn first_join(n: u8) -> Move
     requires { ⌜ (5 ≤ n) × (n ≤ mostPorts) ⌝ }
     ensures { λ r. ⌜ moveOf r ≡ join n 1 ⌝ }
 {
-    if n % 2 == 1 {
+    if is_odd(n) {
         Move::One(Order::Turn(Jack(1), Jack(n - 3), Jack(n - 2)))
     } else {
         Move::One(Order::Turn(Jack(1), Jack(n - 2), Jack(n - 3)))
@@ -72,7 +73,7 @@ fn last_join(n: u8) -> Move
     requires { ⌜ (5 ≤ n) × (n ≤ mostPorts) ⌝ }
     ensures { λ r. ⌜ moveOf r ≡ join n (n - 1) ⌝ }
 {
-    if n % 2 == 1 {
+    if is_odd(n) {
         Move::One(Order::Turn(Jack(n - 4), Jack(n - 1), Jack(n - 2)))
     } else {
         Move::Two(Jack(n - 4), Jack(n - 2), Jack(n - 3), Jack(n - 1))
@@ -109,7 +110,7 @@ pub fn closing(n: u8) -> Move
     if n == FEWEST_PORTS {
         return Move::Nothing;
     }
-    if n % 2 == 1 {
+    if is_odd(n) {
         Move::One(Order::Turn(Jack(n - 2), Jack(n), Jack(n - 1)))
     } else {
         Move::One(Order::Swap(Jack(n - 2), Jack(n)))

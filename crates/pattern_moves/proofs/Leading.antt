@@ -7,13 +7,12 @@ use Prim.Native.Nat.{ℕ, zero, suc, _+_, _-_, _/_, _%_, _≤_, _<_}
 use native.Mathlib.Nat.{mod-lt}
 use native.Mathlib.Omega.{arith}
 use borrow.Author.Tests.{lt-ltb, le-ltb, eq-eqb, ne-eqb}
-use Rattle.listing.specs.Numbers.{Among, before}
+use Rattle.listing.specs.Numbers.{Among, before, odd}
 use Rattle.listing.specs.Count.{count}
 use Rattle.listing.specs.Rank.{perBlock}
 use Rattle.listing.specs.Limits.{mostPorts, largest64}
 use Rattle.listing.specs.Orders.{Move, inverse, raised}
 use Rattle.listing.specs.Neighbours.{inside, onFrom, nextMove}
-use Rattle.listing.proofs.Numbers.{odd-rest}
 use Rattle.listing.proofs.Limits.{count-most}
 use Rattle.listing.proofs.Ranks.{perBlock-pos, block-among}
 use Rattle.listing.proofs.Neighbours.{move-rule}
@@ -76,22 +75,22 @@ module _ (n i u a : ℕ) (all : a ≡ count (n - 1)) where
 
 module _ (n i s : ℕ) where
   -- in an odd block
-  pub on-odd : (x : Passage) → s + 1 < perBlock n → i % 2 ≡ 1 → Inside n i s x → LeadsOn n i s (record { passage = x; back = false })
+  pub on-odd : (x : Passage) → s + 1 < perBlock n → odd i ≡ true → Inside n i s x → LeadsOn n i s (record { passage = x; back = false })
   unfolding onFrom
   on-odd x h o l =
       record {
-        says = λ f g. rw (lt-ltb (suc s) (perBlock n) (omega arith), odd-rest i, eq-eqb (i % 2) 1 o) (l .says f g);
+        says = λ f g. rw (lt-ltb (suc s) (perBlock n) (omega arith), o) (l .says f g);
         within = l .within;
       }
 
   -- in an even block
-  pub on-even : (x : Passage) → s + 1 < perBlock n → i % 2 ≢ 1 → Inside n i (perBlock n - 1 - (s + 1)) x → LeadsOn n i s (record { passage = x; back = true })
+  pub on-even : (x : Passage) → s + 1 < perBlock n → odd i ≡ false → Inside n i (perBlock n - 1 - (s + 1)) x → LeadsOn n i s (record { passage = x; back = true })
   unfolding onFrom
   on-even x h o l =
       let e : perBlock n - 1 - (s + 1) ≡ perBlock n - suc (suc s) = omega arith in
       record {
         says = λ f g.
-            rw (lt-ltb (suc s) (perBlock n) (omega arith), odd-rest i, ne-eqb (i % 2) 1 o)
+            rw (lt-ltb (suc s) (perBlock n) (omega arith), o)
             (ap inverse (l .says f g ∙ ap (inside n i f g) e));
         within = l .within;
       }

@@ -1,6 +1,7 @@
 // Which move leads on from a place in the list, by numbers alone.
 use pattern_steps::counts::block_size;
 use pattern_steps::counts::count_of;
+use pattern_steps::numbers::is_odd;
 ghost use Prim.Native.Nat.{suc, _+_, _-_, _/_, _%_, _≤_, _<_};
 ghost use Rattle.listing.specs.Numbers.{Among};
 ghost use Rattle.listing.specs.Count.{count};
@@ -52,7 +53,7 @@ fn block_step(n: u8, i: u8, s: u64) -> Lead
     let size = block_size(n);
     let next = s + 1;
     if next < size {
-        if i % 2 == 1 {
+        if is_odd(i) {
             return Lead {
                 passage: inside_step(n, i, s),
                 back: false,

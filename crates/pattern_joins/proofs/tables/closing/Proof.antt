@@ -1,9 +1,7 @@
 -- `pattern_joins::tables::closing` meets its contract: 2 ports, and then the parity of n.
 -- Assumes nothing.
 use mathlib.Core.Path.{sym, _∙_}
-use borrow.Author.Tests.{eq-eqb, ne-eqb}
 use borrow.Author.Needs.{needs}
-use Rattle.listing.proofs.Numbers.{odd-rest}
 use Rattle.listing.proofs.Rows.{closing-two, closing-odd, closing-even}
 use Rattle.pattern_joins.proofs.tables.closing.Statement.{statement}
 use Rattle.pattern_joins.proofs.tables.closing.Tie as tie
@@ -12,10 +10,10 @@ returns : tie.Need-returns
 returns c = sym (closing-two _ (c .if1 .taken))
 
 returns-2 : tie.Need-returns-2
-returns-2 c = sym (closing-odd _ (c .before .if1 .left) (odd-rest _ ∙ eq-eqb _ 1 (c .if2 .taken)))
+returns-2 c = sym (closing-odd _ (c .before .before .if1 .left) (sym (c .before .is-odd .ensures) ∙ c .if2 .taken))
 
 returns-3 : tie.Need-returns-3
-returns-3 c = sym (closing-even _ (c .before .if1 .left) (odd-rest _ ∙ ne-eqb _ 1 (c .if2 .left)))
+returns-3 c = sym (closing-even _ (c .before .before .if1 .left) (sym (c .before .is-odd .ensures) ∙ c .if2 .left))
 
 pub closing-spec : {M : Type 1} → statement M
-closing-spec = tie.close (tie.spec returns (λ c. search needs) (λ c. search needs) (λ c. search needs) returns-2 returns-3)
+closing-spec = tie.close (tie.spec returns (λ c κs. search needs) (λ c. search needs) (λ c. search needs) (λ c. search needs) returns-2 returns-3)
