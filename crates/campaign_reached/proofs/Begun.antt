@@ -18,8 +18,9 @@ use Rattle.promise.specs.Campaign.{Setting, first}
 use Rattle.promise.specs.Derangements.{derangements, onPorts}
 use Rattle.promise.proofs.Circuit.{circuit-accepts}
 use Rattle.promise.proofs.Derangements.{lawful-on, circuit-on}
-use Rattle.plans.specs.Grammar.{Planned, Fits}
-use Rattle.plans.specs.Answers.{signedRun, placed, heldOf, plannedOf}
+use Rattle.words.specs.Signs.{withSign}
+use Rattle.plans.specs.Grammar.{Planned, runOf, Fits}
+use Rattle.plans.specs.Answers.{placed, heldOf, plannedOf}
 use Rattle.plans.specs.Calls.{device}
 use Rattle.plans.specs.declared.Plan.{Plan}
 use Rattle.plans.proofs.Plans.{accepted-fits, each-fits}
@@ -67,7 +68,7 @@ module _ (p : Planned) (f : Fits device p) where
   starts = map (λ l. l .start) (p .legs)
 
   runs : List ℤ
-  runs = map (λ l. signedRun (l .back) (l .run)) (p .legs)
+  runs = map (λ l. withSign (runOf l)) (p .legs)
 
   -- they are within the rules
   ruled-places : planRuled device held ≡ true
@@ -75,7 +76,7 @@ module _ (p : Planned) (f : Fits device p) where
   ruled-places =
       let few : length (p .legs) ≤ mostLegs = f .manyLegs in
       let a : length starts ≡ length (p .legs) = length-map (p .legs) (λ l. l .start) in
-      let b : length runs ≡ length (p .legs) = length-map (p .legs) (λ l. signedRun (l .back) (l .run)) in
+      let b : length runs ≡ length (p .legs) = length-map (p .legs) (λ l. withSign (runOf l)) in
       let places = held-places mostLegs p few in
       tells-ruled device held (places .0) (places .1) .1 (record {
         fits = subst (Fits device) (sym holds) f;

@@ -8,7 +8,7 @@ use Rattle.listing.specs.Count.{count}
 use Rattle.words.specs.Told.{atLine}
 use Rattle.text_keys.specs.Parts.{newline, cut, after}
 use Rattle.plans.specs.Grammar.{Limits}
-use Rattle.plan_lines.specs.Field.{lineIn, between, Field, fieldIn}
+use Rattle.plan_lines.specs.Field.{lineIn, between, numberIn, Field, fieldIn}
 use Rattle.plans.specs.Reading.{portsField, legsField, startField, runField, legIn, legsIn, planIn}
 use Rattle.demands.specs.One.{OneOf, Refuses}
 use Rattle.demands.proofs.Numbers.{from-accepted, from-refused, from-then, from-need, from-cond}
@@ -16,14 +16,14 @@ use Rattle.demands.proofs.Numbers.{from-accepted, from-refused, from-th
 -- ---- plans: the numbers of its refusals
 
 -- a line's: 11, 7, 8, and the field's own
-field-numbers : (ns : List ℕ) {A : Type 0} (f : Field A) (line : ℕ) (t : List ℕ) → OneOf ns 11 → OneOf ns 7 → OneOf ns 8 → OneOf ns (f .refusal)
+field-numbers : (ns : List ℕ) (f : Field) (line : ℕ) (t : List ℕ) → OneOf ns 11 → OneOf ns 7 → OneOf ns 8 → OneOf ns (f .refusal)
     → Refuses ns (fieldIn f line t)
 unfolding fieldIn lineIn
 field-numbers ns f line t e v z h =
     from-then ns _ _
     (from-then ns _ _ (from-need ns 11 (atLine line) (cut newline t) e) (λ p. from-then ns _ _ (from-need ns 7 (atLine line) (after (f .key) (p .front)) v) (λ w. from-accepted ns _)))
-    (λ p. from-then ns _ _ (from-need ns 8 (atLine line) (f .number (p .front)) z)
-    (λ a. from-cond ns (between (f .low) (f .below) (f .size a)) _ _ (from-accepted ns _) (from-refused ns (f .refusal) _ h)))
+    (λ p. from-then ns _ _ (from-need ns 8 (atLine line) (numberIn (f .sign) (f .largest) (p .front)) z)
+    (λ s. from-cond ns (between (f .low) (f .below) (s .magnitude)) _ _ (from-accepted ns _) (from-refused ns (f .refusal) _ h)))
 
 -- the numbers of a plan, in the paper's order
 abbrev ns : List ℕ
@@ -59,4 +59,4 @@ unfolding planIn
 plan-numbers most first t =
     from-then ns _ _ (field-numbers ns (portsField most) first t eleven seven eight (inr (inr (inr (inl refl)))))
     (λ p. from-then ns _ _ (field-numbers ns (legsField most) (suc first) (p .rest) eleven seven eight (inr (inr (inr (inr (inl refl))))))
-    (λ k. from-then ns _ _ (legs-numbers (most .largest) (count (p .value)) (k .value) (suc (suc first)) (k .rest)) (λ ls. from-accepted ns _)))
+    (λ k. from-then ns _ _ (legs-numbers (most .largest) (count (p .value .magnitude)) (k .value .magnitude) (suc (suc first)) (k .rest)) (λ ls. from-accepted ns _)))

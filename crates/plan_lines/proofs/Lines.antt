@@ -14,10 +14,11 @@ use lib.ListN.{length, take, drop, length-drop}
 use lib.Seq.{take-nil, drop-drop, length-take-le}
 use borrow.Author.Tests.{le-leb, lt-leb, lt-ltb, leb-true, ltb-true}
 use Rattle.words.specs.Told.{Spot, accepted, refused, atLine}
+use Rattle.words.specs.declared.Signed.{Signed}
 use Rattle.text_keys.specs.Parts.{newline, firstOf, begins, Parts}
 use Rattle.text_keys.proofs.Cuts.{first-inside, to-the-end}
 use Rattle.text_keys.proofs.Keys.{key-room}
-use Rattle.plan_lines.specs.Field.{lineIn, between, Field, fieldIn}
+use Rattle.plan_lines.specs.Field.{lineIn, between, numberIn, Field, fieldIn}
 use Rattle.plan_lines.specs.Places.{part}
 
 -- ---- parts of a text
@@ -101,7 +102,7 @@ pub value-good : (low below n : ℕ) → between low below n ≡ true → (low �
 unfolding between
 value-good low below n e = let t = and-eq-true-iff (leb low n) (ltb n below) .0 e in (leb-true low n (t .0), ltb-true n below (t .1))
 
-module _ {A : Type 0} (f : Field A) (line : ℕ) (t : List ℕ) where
+module _ (f : Field) (line : ℕ) (t : List ℕ) where
   -- the line is refused
   pub field-refused : (k : ℕ) (s : Spot) → refused k s ≡ lineIn (f .key) line t → refused k s ≡ fieldIn f line t
   unfolding fieldIn
@@ -109,17 +110,17 @@ module _ {A : Type 0} (f : Field A) (line : ℕ) (t : List ℕ) where
 
   module _ (p : Parts) (e : accepted p ≡ lineIn (f .key) line t) where
     -- no number: 8
-    pub no-number : none ≡ f .number (p .front) → refused 8 (atLine line) ≡ fieldIn f line t
+    pub no-number : none ≡ numberIn (f .sign) (f .largest) (p .front) → refused 8 (atLine line) ≡ fieldIn f line t
     unfolding fieldIn
     no-number g = rw (sym e, sym g)
 
-    module _ (a : A) (g : some a ≡ f .number (p .front)) where
+    module _ (s : Signed) (g : some s ≡ numberIn (f .sign) (f .largest) (p .front)) where
       -- a good value
-      pub value-taken : true ≡ between (f .low) (f .below) (f .size a) → accepted (record { value = a; rest = p .rest }) ≡ fieldIn f line t
+      pub value-taken : true ≡ between (f .low) (f .below) (s .magnitude) → accepted (record { value = s; rest = p .rest }) ≡ fieldIn f line t
       unfolding fieldIn
       value-taken h = rw (sym e, sym g, sym h)
 
       -- any other
-      pub value-refused : false ≡ between (f .low) (f .below) (f .size a) → refused (f .refusal) (atLine line) ≡ fieldIn f line t
+      pub value-refused : false ≡ between (f .low) (f .below) (s .magnitude) → refused (f .refusal) (atLine line) ≡ fieldIn f line t
       unfolding fieldIn
       value-refused h = rw (sym e, sym g, sym h)

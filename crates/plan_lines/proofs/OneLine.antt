@@ -8,11 +8,12 @@ use mathlib.Core.Option.{none, some}
 use Prim.Native.Nat.{ℕ, _≤_, _<_}
 use lib.Seq.{append-snoc}
 use Rattle.words.specs.Told.{accepted, atLine, need}
+use Rattle.words.specs.declared.Signed.{Signed}
 use Rattle.words.proofs.Told.{accepted-once, need-accepted, then-accepted}
 use Rattle.text_keys.specs.Parts.{newline, firstOf, Parts, cut, after}
 use Rattle.text_keys.proofs.Cuts.{cut-joined, cut-parts}
 use Rattle.text_keys.proofs.Keys.{after-key, key-after}
-use Rattle.plan_lines.specs.Field.{fieldText, passed, lineIn, between, Field, Got, fieldIn}
+use Rattle.plan_lines.specs.Field.{fieldText, passed, lineIn, between, numberIn, Field, Got, fieldIn}
 use Rattle.plan_lines.proofs.Lines.{good-value, value-good}
 
 -- ---- accepted steps
@@ -25,18 +26,18 @@ passed-accepted k line false x a e = absurd (true≢false (cc))
 -- ---- a line
 
 -- a line of a kind at the front of a text: key, value and newline, where the value is a number, and a good one
-pub record FieldOf {A : Type 0} (f : Field A) (t : List ℕ) (g : Got A) : Type 0 where
+pub record FieldOf (f : Field) (t : List ℕ) (g : Got Signed) : Type 0 where
   pub value : List ℕ
   pub whole : t ≡ fieldText (f .key) value ++ g .rest
-  pub number : f .number value ≡ some (g .value)
-  pub low : f .low ≤ f .size (g .value)
-  pub below : f .size (g .value) < f .below
+  pub number : numberIn (f .sign) (f .largest) value ≡ some (g .value)
+  pub low : f .low ≤ g .value .magnitude
+  pub below : g .value .magnitude < f .below
 
 -- key, value and newline before a text
 field-joined : (key v t : List ℕ) → fieldText key v ++ t ≡ (key ++ v) ++ (newline ∷ t)
 field-joined key v t = append-snoc (key ++ v) newline t
 
-module _ {A : Type 0} (f : Field A) (line : ℕ) where
+module _ (f : Field) (line : ℕ) where
   -- a line that was read
   line-accepted : (t : List ℕ) (p : Parts) → lineIn (f .key) line t ≡ accepted p → t ≡ fieldText (f .key) (p .front) ++ p .rest
   unfolding lineIn
@@ -53,27 +54,27 @@ module _ {A : Type 0} (f : Field A) (line : ℕ) where
       ∙ ap (λ (r : Parts). fieldText (f .key) (r .front) ++ r .rest) g
 
   -- an accepted line is key, value and newline, the value a number, and a good one
-  pub field-accepted : (t : List ℕ) (g : Got A) → fieldIn f line t ≡ accepted g → FieldOf f t g
+  pub field-accepted : (t : List ℕ) (g : Got Signed) → fieldIn f line t ≡ accepted g → FieldOf f t g
   unfolding fieldIn
   field-accepted t g e =
       let b = then-accepted (lineIn (f .key) line t) _ g e in
       let p = b .first in
-      let n = then-accepted (need 8 (atLine line) (f .number (p .front))) _ g (b .on) in
-      let v = passed-accepted (f .refusal) line (between (f .low) (f .below) (f .size (n .first))) _ g (n .on) in
-      let r = value-good (f .low) (f .below) (f .size (n .first)) (v .0) in
+      let n = then-accepted (need 8 (atLine line) (numberIn (f .sign) (f .largest) (p .front))) _ g (b .on) in
+      let v = passed-accepted (f .refusal) line (between (f .low) (f .below) (n .first .magnitude)) _ g (n .on) in
+      let r = value-good (f .low) (f .below) (n .first .magnitude) (v .0) in
       rw (sym (v .1))
       (record {
         value = p .front;
         whole = line-accepted t p (b .taken);
-        number = need-accepted 8 (atLine line) (f .number (p .front)) (n .first) (n .taken);
+        number = need-accepted 8 (atLine line) (numberIn (f .sign) (f .largest) (p .front)) (n .first) (n .taken);
         low = r .0;
         below = r .1;
       })
 
   -- and every such text is accepted
-  pub field-text : (v rest : List ℕ) (a : A) → firstOf newline (f .key ++ v) ≡ none → f .number v ≡ some a → f .low ≤ f .size a → f .size a < f .below
+  pub field-text : (v rest : List ℕ) (a : Signed) → firstOf newline (f .key ++ v) ≡ none → numberIn (f .sign) (f .largest) v ≡ some a → f .low ≤ a .magnitude → a .magnitude < f .below
       → fieldIn f line (fieldText (f .key) v ++ rest) ≡ accepted (record { value = a; rest = rest })
   unfolding fieldIn lineIn
   field-text v rest a clear number low below =
-      let good : between (f .low) (f .below) (f .size a) ≡ true = good-value (f .low) (f .below) (f .size a) low below in
+      let good : between (f .low) (f .below) (a .magnitude) ≡ true = good-value (f .low) (f .below) (a .magnitude) low below in
       rw (field-joined (f .key) v rest, cut-joined newline (f .key ++ v) rest clear, after-key (f .key) v, number, good)

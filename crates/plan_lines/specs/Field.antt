@@ -2,14 +2,15 @@
 -- value'. Which values are good, the refusal of any other, the largest number of the device and the line's number are parameters.
 -- Assumes nothing.
 use Prim.Native.Nat.{ℕ}
-use mathlib.Core.Bool.{Bool, cond, _&&_}
+use mathlib.Core.Bool.{Bool, true, false, cond, _&&_}
 use mathlib.Core.List.{List, [], _∷_, _++_}
 use mathlib.Core.Option.{Option}
 use lib.Dec.{leb, ltb}
 use Rattle.words.specs.Told.{Told, accepted, refused, atLine, then, need}
 use Rattle.text_keys.specs.Parts.{newline, Parts, cut, after}
 use Rattle.text_numbers.specs.Decimal.{numberUpTo}
-use Rattle.text_numbers.specs.Signed.{Signed, magnitude, signedUpTo}
+use Rattle.words.specs.declared.Signed.{Signed}
+use Rattle.text_numbers.specs.Signed.{plain, signedUpTo}
 
 -- a line: its key, its value, and one newline byte
 abbrev pub fieldText : List ℕ → List ℕ → List ℕ
@@ -28,11 +29,15 @@ lineIn key line t =
 unfoldable pub between : ℕ → ℕ → ℕ → Bool
 between low below n = leb low n && ltb n below
 
--- a kind of line: its key, the number that a text is, its magnitude, which magnitudes are good, and the refusal of any other
-pub record Field (A : Type 0) : Type 0 where
+-- the number that a text is: with `-` before it only where a sign may stand
+abbrev pub numberIn : Bool → ℕ → List ℕ → Option Signed
+numberIn sign largest t = cond sign (signedUpTo largest t) (plain (numberUpTo largest t))
+
+-- a kind of line: its key, whether a sign may stand, the largest number of the device, which magnitudes are good, and the refusal of any other
+pub record Field : Type 0 where
   pub key : List ℕ
-  pub number : List ℕ → Option A
-  pub size : A → ℕ
+  pub sign : Bool
+  pub largest : ℕ
   pub low : ℕ
   pub below : ℕ
   pub refusal : ℕ
@@ -43,15 +48,15 @@ pub record Got (A : Type 0) : Type 0 where
   pub rest : List ℕ
 
 -- a line of a kind at the front of a text: 11, 7, then 'number (8), value'
-unfoldable pub fieldIn : {A : Type 0} → Field A → ℕ → List ℕ → Told (Got A)
+unfoldable pub fieldIn : Field → ℕ → List ℕ → Told (Got Signed)
 fieldIn f line t =
     then (lineIn (f .key) line t)
-    (λ p. then (need 8 (atLine line) (f .number (p .front)))
-    (λ a. passed (f .refusal) line (between (f .low) (f .below) (f .size a)) (record { value = a; rest = p .rest })))
+    (λ p. then (need 8 (atLine line) (numberIn (f .sign) (f .largest) (p .front)))
+    (λ s. passed (f .refusal) line (between (f .low) (f .below) (s .magnitude)) (record { value = s; rest = p .rest })))
 
 -- a line with a number, and a line with a signed number
-abbrev pub unsigned : ℕ → List ℕ → ℕ → ℕ → ℕ → Field ℕ
-unsigned largest key low below k = record { key = key; number = numberUpTo largest; size = λ n. n; low = low; below = below; refusal = k }
+abbrev pub unsigned : ℕ → List ℕ → ℕ → ℕ → ℕ → Field
+unsigned largest key low below k = record { key = key; sign = false; largest = largest; low = low; below = below; refusal = k }
 
-abbrev pub signed : ℕ → List ℕ → ℕ → ℕ → ℕ → Field Signed
-signed largest key low below k = record { key = key; number = signedUpTo largest; size = magnitude; low = low; below = below; refusal = k }
+abbrev pub signed : ℕ → List ℕ → ℕ → ℕ → ℕ → Field
+signed largest key low below k = record { key = key; sign = true; largest = largest; low = low; below = below; refusal = k }

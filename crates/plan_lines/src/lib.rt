@@ -2,22 +2,25 @@
 use text_keys::Found;
 use text_keys::find;
 use text_keys::has_key;
-use text_numbers::Read;
 use text_numbers::ReadSigned;
+use text_numbers::reading::ahead;
 use text_numbers::reading::read_number;
 use text_numbers::reading::read_signed;
 use words::Reason;
 use words::Refusal;
+use words::Signed;
 use words::refusals::at_line;
 ghost use mathlib.Core.Path.{_≡_};
 ghost use Prim.Native.Nat.{_≤_};
 ghost use lib.ListN.{length, drop};
 ghost use Rattle.listing.specs.Limits.{largest64};
-ghost use Rattle.plan_lines.specs.Field.{lineIn, between, fieldIn};
-ghost use Rattle.plan_lines.specs.Places.{numberKind, runKind, boundsTold, BoundsWithin, numberedTold, NumberWithin, runTold, RunWithin};
+ghost use Rattle.text_numbers.specs.Answers.{signedIs};
+ghost use Rattle.plan_lines.specs.Field.{lineIn, between, numberIn, fieldIn};
+ghost use Rattle.plan_lines.specs.Places.{fieldOf, boundsTold, BoundsWithin, lineTold, LineWithin};
 
-// The values that a line may have: from low on and below `below`. Any other is refused.
+// The values that a line may have: with `-` before them or not, from low on and below `below`. Any other is refused.
 pub struct Values {
+    pub sign: bool,
     pub low: u64,
     pub below: u64,
     pub reason: Reason,
@@ -29,16 +32,9 @@ pub enum Bounds {
     Refused(Refusal),
 }
 
-// A number read from a line, and the place after the line.
-pub enum Numbered {
-    Number(u64, usize),
-    Refused(Refusal),
-}
-
-// A run read from a line, ahead or behind by a magnitude, and the place after the line.
-pub enum Run {
-    Ahead(u64, usize),
-    Behind(u64, usize),
+// A number read from a line, and the place after the line. One without a sign does not go back.
+pub enum LineRead {
+    Value(Signed, usize),
     Refused(Refusal),
 }
 
@@ -58,7 +54,7 @@ fn line_at(text: &[u8], at: usize, key: &[u8], line: u8) -> Bounds
     ensures told { λ r. ⌜ boundsTold (now (text .entry)) r ≡ lineIn (now (key .entry)) line (drop at (now (text .entry))) ⌝ }
     ensures within { λ r. ⌜ BoundsWithin (now (text .entry)) r ⌝ }
 {
-    match find(&text[at..], 10) {
+    match find(&text[at..], b'\n') {
         Found::Nowhere => Bounds::Refused(at_line(Reason::Ended, line)),
         Found::At(n) => {
             let to = at + n;
@@ -70,50 +66,33 @@ fn line_at(text: &[u8], at: usize, key: &[u8], line: u8) -> Bounds
     }
 }
 
-// The line with a number that begins at a place.
-pub fn number_at(text: &[u8], at: usize, key: &[u8], values: Values, line: u8) -> Numbered
-    requires { ⌜ at ≤ length (now text) ⌝ }
-    ensures told { λ r. ⌜ numberedTold (now (text .entry)) r ≡ fieldIn (numberKind largest64 (now (key .entry)) values) line (drop at (now (text .entry))) ⌝ }
-    ensures within { λ r. ⌜ NumberWithin (now (text .entry)) r ⌝ }
+// The number that a text is: with `-` before it only where a sign may stand.
+fn number_in(t: &[u8], sign: bool) -> ReadSigned
+    ensures { λ r. ⌜ signedIs r ≡ numberIn sign largest64 (now (t .entry)) ⌝ }
 {
-    match line_at(text, at, key, line) {
-        Bounds::Refused(f) => Numbered::Refused(f),
-        Bounds::Value(from, to) => match read_number(&text[from..to]) {
-            Read::Bad => Numbered::Refused(at_line(Reason::Number, line)),
-            Read::Number(v) => {
-                if good(values, v) {
-                    return Numbered::Number(v, to + 1);
-                }
-                let reason = values.reason;
-                Numbered::Refused(at_line(reason, line))
-            }
-        },
+    if sign {
+        read_signed(t)
+    } else {
+        ahead(read_number(t))
     }
 }
 
-// The line with a signed number that begins at a place.
-pub fn run_at(text: &[u8], at: usize, key: &[u8], values: Values, line: u8) -> Run
+// The line with a number that begins at a place.
+pub fn value_at(text: &[u8], at: usize, key: &[u8], values: Values, line: u8) -> LineRead
     requires { ⌜ at ≤ length (now text) ⌝ }
-    ensures told { λ r. ⌜ runTold (now (text .entry)) r ≡ fieldIn (runKind largest64 (now (key .entry)) values) line (drop at (now (text .entry))) ⌝ }
-    ensures within { λ r. ⌜ RunWithin (now (text .entry)) r ⌝ }
+    ensures told { λ r. ⌜ lineTold (now (text .entry)) r ≡ fieldIn (fieldOf largest64 (now (key .entry)) values) line (drop at (now (text .entry))) ⌝ }
+    ensures within { λ r. ⌜ LineWithin (now (text .entry)) r ⌝ }
 {
     match line_at(text, at, key, line) {
-        Bounds::Refused(f) => Run::Refused(f),
-        Bounds::Value(from, to) => match read_signed(&text[from..to]) {
-            ReadSigned::Bad => Run::Refused(at_line(Reason::Number, line)),
-            ReadSigned::Ahead(m) => {
-                if good(values, m) {
-                    return Run::Ahead(m, to + 1);
+        Bounds::Refused(f) => LineRead::Refused(f),
+        Bounds::Value(from, to) => match number_in(&text[from..to], values.sign) {
+            ReadSigned::Bad => LineRead::Refused(at_line(Reason::Number, line)),
+            ReadSigned::Number(s) => {
+                if good(values, s.magnitude) {
+                    return LineRead::Value(s, to + 1);
                 }
                 let reason = values.reason;
-                Run::Refused(at_line(reason, line))
-            }
-            ReadSigned::Behind(m) => {
-                if good(values, m) {
-                    return Run::Behind(m, to + 1);
-                }
-                let reason = values.reason;
-                Run::Refused(at_line(reason, line))
+                LineRead::Refused(at_line(reason, line))
             }
         },
     }

@@ -9,8 +9,9 @@ ghost use Prim.Native.Nat.{_≤_, _<_};
 ghost use lib.ListN.{take};
 ghost use Rattle.promise.specs.Plan.{legAt, marks};
 ghost use Rattle.plans.specs.Answers.{legHeld};
+ghost use Rattle.plans.specs.Places.{legIs};
 ghost use Rattle.plans.specs.Calls.{device};
-ghost use Rattle.plan_rules.specs.Rules.{legIs, legsOf, places, legRuled, unused, placesRuled, planRuled};
+ghost use Rattle.plan_rules.specs.Rules.{legsOf, places, legRuled, unused, placesRuled, planRuled};
 
 // The leg that a start and a run are.
 fn leg_of(start: u64, run: i64) -> Leg

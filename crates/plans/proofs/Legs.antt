@@ -2,7 +2,7 @@
 -- (`leg-accepted`, `legs-accepted`). Before them, what a reader concludes from each line of a leg.
 -- Assumes nothing.
 use mathlib.Core.Path.{_≡_, refl, sym, ap, _∙_}
-use mathlib.Core.Bool.{Bool, true, false, true≢false, cond}
+use mathlib.Core.Bool.{true≢false}
 use mathlib.Core.List.{List, [], _∷_, _++_, append-assoc}
 use Prim.Native.Nat.{ℕ, zero, suc, _+_, _≤_, _<_}
 use native.Mathlib.Numerals.{add-one}
@@ -12,35 +12,14 @@ use Rattle.promise.specs.Plan.{Leg}
 use Rattle.words.specs.Told.{Spot, accepted, refused}
 use Rattle.text_keys.specs.Parts.{firstOf}
 use Rattle.text_numbers.specs.Decimal.{digitsOf}
-use Rattle.text_numbers.specs.Signed.{Signed, ahead, behind, magnitude, Proper, signedDigits}
+use Rattle.words.specs.Signs.{ahead}
+use Rattle.words.specs.declared.Signed.{Signed}
+use Rattle.text_numbers.specs.Signed.{signedDigits}
 use Rattle.plan_lines.specs.Field.{fieldText, Got, fieldIn}
 use Rattle.words.proofs.Told.{then-accepted, accepted-once}
-use Rattle.plan_lines.proofs.Numbers.{number-text, number-accepted, signed-text, signed-accepted}
+use Rattle.plan_lines.proofs.Numbers.{number-text, number-accepted, value-text, value-accepted}
 use Rattle.plans.specs.Grammar.{startKey, runKey, runOf, legText, legsText, LegFits, EachFits}
 use Rattle.plans.specs.Reading.{startField, runField, legBy, legIn, preceded, legsIn}
-
--- ---- a leg by its start and its run
-
-leg-by : (start : ℕ) (back : Bool) (run : ℕ) → legBy start (cond back (behind run) (ahead run)) ≡ record { start = start; back = back; run = run }
-leg-by start true run = refl
-leg-by start false run = refl
-
-leg-lines : (start : ℕ) (r : Signed) → legText (legBy start r) ≡ fieldText startKey (digitsOf start) ++ fieldText runKey (signedDigits r)
-leg-lines start (ahead n) = refl
-leg-lines start (behind n) = refl
-
-leg-fits : (size start : ℕ) (r : Signed) → start < size → magnitude r < size → Proper r → LegFits size (legBy start r)
-leg-fits size start (ahead n) h l p = record { start = h; run = l; behind = λ e. absurd (true≢false (sym e)) }
-leg-fits size start (behind n) h l p = record { start = h; run = l; behind = λ e. p }
-
--- the run of a leg that fits, with its sign
-fits-proper : (back : Bool) (run : ℕ) → (back ≡ true → 1 ≤ run) → Proper (cond back (behind run) (ahead run))
-fits-proper true run h = h refl
-fits-proper false run h = tt
-
-run-size : (back : Bool) (run : ℕ) → magnitude (cond back (behind run) (ahead run)) ≡ run
-run-size true run = refl
-run-size false run = refl
 
 -- ---- the two lines of a leg
 
@@ -50,7 +29,7 @@ module _ (largest size line : ℕ) (t : List ℕ) where
   unfolding legIn
   start-refused k s e = rw (sym e)
 
-  module _ (g : Got ℕ) (e : accepted g ≡ fieldIn (startField largest size) line t) where
+  module _ (g : Got Signed) (e : accepted g ≡ fieldIn (startField largest size) line t) where
     -- the run's line is
     pub run-refused : (k : ℕ) (s : Spot) → refused k s ≡ fieldIn (runField largest size) (line + 1) (g .rest) → refused k s ≡ legIn largest size line t
     unfolding legIn
@@ -58,7 +37,7 @@ module _ (largest size line : ℕ) (t : List ℕ) where
 
     -- both are read
     pub leg-taken : (r : Got Signed) → accepted r ≡ fieldIn (runField largest size) (line + 1) (g .rest)
-        → accepted (record { value = legBy (g .value) (r .value); rest = r .rest }) ≡ legIn largest size line t
+        → accepted (record { value = legBy (g .value .magnitude) (r .value); rest = r .rest }) ≡ legIn largest size line t
     unfolding legIn
     leg-taken r f = let h = rw (add-one line) at f in rw (sym e, sym h)
 
@@ -69,15 +48,12 @@ unfolding firstOf
 leg-text largest size line l rest w h =
     let a = fieldText startKey (digitsOf (l .start)) in
     let b = fieldText runKey (signedDigits (runOf l)) in
-    let m : magnitude (runOf l) ≡ l .run = run-size (l .back) (l .run) in
     let s = number-text largest startKey 0 size 6 line (l .start) (b ++ rest) refl (omega (arith, h .start)) (omega arith) (h .start) in
-    let r = signed-text largest runKey 0 size 10 (line + 1) (runOf l) rest refl (fits-proper (l .back) (l .run) (h .behind)) (omega (arith, h .run))
-    (omega arith)
-    (omega (arith, h .run)) in
+    let r = value-text (runField largest size) (line + 1) (runOf l) rest refl (λ e. (refl, h .behind e)) (omega (arith, h .run)) (omega arith) (h .run) in
     ap (legIn largest size line) (append-assoc a b rest)
     ∙ sym
-    (leg-taken largest size line (a ++ (b ++ rest)) (record { value = l .start; rest = b ++ rest }) (sym s) (record { value = runOf l; rest = rest }) (sym r))
-    ∙ ap (λ (x : Leg). accepted (record { value = x; rest = rest })) (leg-by (l .start) (l .back) (l .run))
+    (leg-taken largest size line (a ++ (b ++ rest)) (record { value = ahead (l .start); rest = b ++ rest }) (sym s) (record { value = runOf l; rest = rest })
+    (sym r))
 
 -- what is read as a leg is its text, and it fits
 pub record LegOf (size : ℕ) (t : List ℕ) (g : Got Leg) : Type 0 where
@@ -90,19 +66,15 @@ leg-accepted largest size line t g e =
     let b = then-accepted (fieldIn (startField largest size) line t) _ g e in
     let r = then-accepted (fieldIn (runField largest size) (suc line) (b .first .rest)) _ g (b .on) in
     let s = number-accepted largest startKey 0 size 6 line t (b .first) (b .taken) in
-    let q = signed-accepted largest runKey 0 size 10 (suc line) (b .first .rest) (r .first) (r .taken) in
-    let start = b .first .value in
+    let q = value-accepted (runField largest size) (suc line) (b .first .rest) (r .first) (r .taken) in
+    let start = b .first .value .magnitude in
     let run = r .first .value in
     let a = fieldText startKey (digitsOf start) in
     let same : record { value = legBy start run; rest = r .first .rest } ≡ g = accepted-once (r .on) in
     rw (sym same)
     (record {
-      whole =
-          s .0
-          ∙ ap (λ x. a ++ x) (q .0)
-          ∙ sym (append-assoc a (fieldText runKey (signedDigits run)) (r .first .rest))
-          ∙ ap (λ x. x ++ r .first .rest) (sym (leg-lines start run));
-      fits = leg-fits size start run (s .2) (q .2) (q .1);
+      whole = s .0 ∙ ap (λ x. a ++ x) (q .whole) ∙ sym (append-assoc a (fieldText runKey (signedDigits run)) (r .first .rest));
+      fits = record { start = s .2; run = q .below; behind = λ e. q .sayable e .1 };
     })
 
 -- ---- legs

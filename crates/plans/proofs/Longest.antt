@@ -2,7 +2,7 @@
 -- (`text-801`, `marks-most`), and one plan that attains both (`longest`).
 -- Assumes nothing.
 use mathlib.Core.Path.{_≡_, ap, subst, _∙_}
-use mathlib.Core.Bool.{Bool, true, false, cond}
+use mathlib.Core.Bool.{Bool, true, false}
 use mathlib.Core.List.{List, [], _∷_, _++_}
 use Prim.Native.Nat.{ℕ, zero, suc, _+_, _*_, _≤_, _<_}
 use native.Mathlib.Nat.{le-trans, mul-le-mul}
@@ -15,7 +15,7 @@ use Rattle.listing.proofs.Limits.{count-20, most-marks}
 use Rattle.promise.specs.Plan.{Leg, marks}
 use Rattle.words.specs.Told.{accepted}
 use Rattle.text_numbers.specs.Decimal.{digitsOf}
-use Rattle.text_numbers.specs.Signed.{ahead, behind, signedDigits}
+use Rattle.text_numbers.specs.Signed.{signedDigits}
 use Rattle.text_numbers.proofs.Lengths.{digits-at-most, digits-above, digits-no-fewer}
 use Rattle.plan_lines.specs.Field.{fieldText}
 use Rattle.plans.specs.Grammar.{Planned, Limits, Wide, portsKey, legsKey, startKey, runKey, runOf, legText, legsText, planText, LegFits, EachFits, Fits}
@@ -33,7 +33,7 @@ field-length : (key v : List ℕ) → length (fieldText key v) ≡ length key + 
 field-length key v = length-append (key ++ v) _ ∙ ap (λ k. k + 1) (length-append key v)
 
 -- a run has a sign more than digits, at most
-run-length : (back : Bool) (run : ℕ) → length (signedDigits (cond back (behind run) (ahead run))) ≤ places run + 1
+run-length : (back : Bool) (run : ℕ) → length (signedDigits (record { back = back; magnitude = run })) ≤ places run + 1
 run-length true run = omega arith
 run-length false run = omega arith
 

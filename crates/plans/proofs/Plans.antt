@@ -13,6 +13,8 @@ use Rattle.promise.specs.Plan.{Leg, legAt}
 use Rattle.words.specs.Told.{Spot, accepted, refused}
 use Rattle.text_keys.specs.Parts.{firstOf}
 use Rattle.text_numbers.specs.Decimal.{digitsOf}
+use Rattle.words.specs.declared.Signed.{Signed}
+use Rattle.words.specs.Signs.{ahead}
 use Rattle.plan_lines.specs.Field.{fieldText, Got, fieldIn}
 use Rattle.words.proofs.Told.{then-accepted, accepted-once}
 use Rattle.plan_lines.proofs.Numbers.{number-text, number-accepted}
@@ -39,15 +41,15 @@ module _ (most : Limits) (first : ℕ) (t : List ℕ) where
   unfolding planIn
   ports-refused k s e = rw (sym e)
 
-  module _ (p : Got ℕ) (e : accepted p ≡ fieldIn (portsField most) first t) where
+  module _ (p : Got Signed) (e : accepted p ≡ fieldIn (portsField most) first t) where
     -- the legs' line is
     pub legs-line-refused : (k : ℕ) (s : Spot) → refused k s ≡ fieldIn (legsField most) (suc first) (p .rest) → refused k s ≡ planIn most first t
     unfolding planIn
     legs-line-refused k s f = rw (sym e, sym f)
 
     -- both are read, and the legs decide
-    pub legs-decide : (l : Got ℕ) → accepted l ≡ fieldIn (legsField most) (suc first) (p .rest)
-        → withPorts (p .value) (legsIn (most .largest) (count (p .value)) (l .value) (suc (suc first)) (l .rest)) ≡ planIn most first t
+    pub legs-decide : (l : Got Signed) → accepted l ≡ fieldIn (legsField most) (suc first) (p .rest)
+        → withPorts (p .value .magnitude) (legsIn (most .largest) (count (p .value .magnitude)) (l .value .magnitude) (suc (suc first)) (l .rest)) ≡ planIn most first t
     unfolding planIn
     legs-decide l f = rw (sym e, sym f)
 
@@ -65,8 +67,8 @@ fits-accepted most first p w h =
     let b = number-text (most .largest) legsKey 1 (suc (most .legs)) 9 (suc first) (length ls) (legsText ls) refl (omega (arith, w .legs, h .manyLegs))
     (h .fewLegs)
     (omega (arith, h .manyLegs)) in
-    sym (legs-decide most first (fieldText portsKey (digitsOf (p .ports)) ++ more) (record { value = p .ports; rest = more }) (sym a)
-    (record { value = length ls; rest = legsText ls }) (sym b))
+    sym (legs-decide most first (fieldText portsKey (digitsOf (p .ports)) ++ more) (record { value = ahead (p .ports); rest = more }) (sym a)
+    (record { value = ahead (length ls); rest = legsText ls }) (sym b))
     ∙ ap (withPorts (p .ports)) (legs-text (most .largest) (count (p .ports)) ls (suc (suc first)) c (h .each))
 
 -- a text that is accepted as a plan is the plan's text, and the plan fits
@@ -75,8 +77,8 @@ unfolding planIn planText
 accepted-fits most first t p e =
     let a = then-accepted (fieldIn (portsField most) first t) _ p e in
     let b = then-accepted (fieldIn (legsField most) (suc first) (a .first .rest)) _ p (a .on) in
-    let n = a .first .value in
-    let k = b .first .value in
+    let n = a .first .value .magnitude in
+    let k = b .first .value .magnitude in
     let c = then-accepted (legsIn (most .largest) (count n) k (suc (suc first)) (b .first .rest)) _ p (b .on) in
     let x = number-accepted (most .largest) portsKey 2 (suc (most .ports)) 1 first t (a .first) (a .taken) in
     let y = number-accepted (most .largest) legsKey 1 (suc (most .legs)) 9 (suc first) (a .first .rest) (b .first) (b .taken) in

@@ -12,8 +12,10 @@ use lib.Seq.{set-at, append-snoc}
 use Rattle.promise.specs.Plan.{Leg}
 use Rattle.words.specs.Told.{Told, Spot, accepted, refused, atLine}
 use Rattle.plan_lines.specs.Field.{Got}
+use Rattle.words.specs.Signs.{withSign}
+use Rattle.plans.specs.Grammar.{runOf}
 use Rattle.plans.specs.Reading.{legIn, ended, preceded, legsIn, withPorts}
-use Rattle.plans.specs.Answers.{signedRun, padded, placed, Answers}
+use Rattle.plans.specs.Answers.{padded, placed, Answers}
 use Rattle.words.specs.declared.Outcome.the-variants.{Accepted}
 use Rattle.plans.specs.declared.ReadPlan.{ReadPlan}
 use Rattle.plans.proofs.Legs.{legs-on, legs-refused}
@@ -58,7 +60,7 @@ pub record Read (largest size most legs line : ℕ) (text : List ℕ) (starts : 
   pub read : List Leg
   pub many : length read ≡ done
   pub inStarts : starts ≡ padded most 0 (map (λ l. l .start) read)
-  pub inRuns : runs ≡ padded most (pos 0) (map (λ l. signedRun (l .back) (l .run)) read)
+  pub inRuns : runs ≡ padded most (pos 0) (map (λ l. withSign (runOf l)) read)
   pub told : legsIn largest size legs line text ≡ preceded read (legsIn largest size (legs - done) (line + 2 * done) rest)
 
 module _ (largest size most legs line : ℕ) (text : List ℕ) where
@@ -79,7 +81,7 @@ module _ (largest size most legs line : ℕ) (text : List ℕ) where
   module _ (starts : List ℕ) (runs : List ℤ) (rest : List ℕ) (done : ℕ) (R : Read largest size most legs line text starts runs rest done) where
     -- one leg more, its run stored as z
     pub read-more : (g : Got Leg) (z : ℤ) → done < legs → done < most → accepted g ≡ legIn largest size (line + 2 * done) rest
-        → z ≡ signedRun (g .value .back) (g .value .run)
+        → z ≡ withSign (runOf (g .value))
         → Read largest size most legs line text (set starts done (g .value .start)) (set runs done z) (g .rest) (done + 1)
     read-more g z h w e q =
         let ls = R .read in
@@ -91,8 +93,8 @@ module _ (largest size most legs line : ℕ) (text : List ℕ) where
           inStarts = ap (λ l. set l done (g .value .start)) (R .inStarts) ∙ padded-leg most 0 (λ l. l .start) ls (g .value) done (R .many) w;
           inRuns =
               ap (set runs done) q
-              ∙ ap (λ l. set l done (signedRun (g .value .back) (g .value .run))) (R .inRuns)
-              ∙ padded-leg most (pos 0) (λ l. signedRun (l .back) (l .run)) ls (g .value) done (R .many) w;
+              ∙ ap (λ l. set l done (withSign (runOf (g .value)))) (R .inRuns)
+              ∙ padded-leg most (pos 0) (λ l. withSign (runOf l)) ls (g .value) done (R .many) w;
           told =
               R .told
               ∙ ap (λ k. preceded ls (legsIn largest size k (line + 2 * done) rest)) a

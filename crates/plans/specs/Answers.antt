@@ -2,23 +2,19 @@
 -- Assumes nothing.
 use Prim.Native.Nat.{ℕ, zero, suc, _-_}
 use mathlib.Core.Path.{_≡_}
-use mathlib.Core.Bool.{Bool, true, false, cond}
 use mathlib.Core.List.{List, [], _∷_, _++_, map}
-use lib.IntN.{ℤ, pos, negsuc, negℤ}
+use lib.IntN.{ℤ, pos}
 use lib.ListN.{length, replicate}
 use Rattle.promise.specs.Plan.{Leg}
 use Rattle.words.specs.Told.{Told, accepted, refused, then}
 use Rattle.words.specs.Meaning.{outcomeTold}
-use Rattle.words.specs.Signs.{bySign}
-use Rattle.plans.specs.Grammar.{Planned}
+use Rattle.words.specs.Signs.{bySign, withSign}
+use Rattle.plans.specs.Grammar.{Planned, runOf}
+use Rattle.plans.specs.Reading.{legBy}
 use Rattle.plans.specs.declared.Plan.{Plan}
 use Rattle.plans.specs.declared.ReadPlan.{ReadPlan}
 
 -- ---- a plan in places
-
--- a run by whether it goes backward and by its magnitude
-abbrev pub signedRun : Bool → ℕ → ℤ
-signedRun back run = cond back (negℤ (pos run)) (pos run)
 
 -- a list in `places` places: 0 beyond it
 abbrev pub padded : {A : Type 0} → ℕ → A → List A → List A
@@ -31,7 +27,7 @@ placed most p =
       ports = p .ports;
       legs = length (p .legs);
       starts = padded most 0 (map (λ l. l .start) (p .legs));
-      runs = padded most (pos 0) (map (λ l. signedRun (l .back) (l .run)) (p .legs));
+      runs = padded most (pos 0) (map (λ l. withSign (runOf l)) (p .legs));
     }
 
 -- what is held after a text was read: the plan, or all zeros if it was refused
@@ -43,7 +39,7 @@ heldOf most (refused k s) = placed most (record { ports = 0; legs = [] })
 
 -- a leg by a start and a run with its sign
 abbrev pub legHeld : ℕ → ℤ → Leg
-legHeld start z = record { start = start; back = bySign z .back; run = bySign z .magnitude }
+legHeld start z = legBy start (bySign z)
 
 -- the first k legs
 unfoldable pub legsHeld : ℕ → List ℕ → List ℤ → List Leg

@@ -2,14 +2,14 @@
 -- (a rank) and run (signed)'. The limits of the device are parameters.
 -- Assumes nothing.
 use Prim.Native.Nat.{ℕ, suc, _≤_, _<_}
-use mathlib.Core.Path.{_≡_}
-use mathlib.Core.Bool.{true, cond}
 use mathlib.Core.List.{List, [], _∷_, _++_}
 use lib.ListN.{length}
 use Rattle.listing.specs.Count.{count}
 use Rattle.promise.specs.Plan.{Leg}
 use Rattle.text_numbers.specs.Decimal.{digitsOf}
-use Rattle.text_numbers.specs.Signed.{Signed, ahead, behind, signedDigits}
+use Rattle.words.specs.Signs.{Proper}
+use Rattle.words.specs.declared.Signed.{Signed}
+use Rattle.text_numbers.specs.Signed.{signedDigits}
 use Rattle.plan_lines.specs.Field.{fieldText}
 
 -- a plan: its ports and its legs
@@ -44,9 +44,9 @@ startKey = 115 ∷ 116 ∷ 97 ∷ 114 ∷ 116 ∷ 61 ∷ []
 abbrev pub runKey : List ℕ
 runKey = 114 ∷ 117 ∷ 110 ∷ 61 ∷ []
 
--- a run with its sign: behind for a leg that runs backward
+-- a run by its sign: behind for a leg that runs backward
 abbrev pub runOf : Leg → Signed
-runOf l = cond (l .back) (behind (l .run)) (ahead (l .run))
+runOf l = record { back = l .back; magnitude = l .run }
 
 -- the two lines of a leg
 abbrev pub legText : Leg → List ℕ
@@ -66,7 +66,7 @@ planText p = fieldText portsKey (digitsOf (p .ports)) ++ (fieldText legsKey (dig
 pub record LegFits (size : ℕ) (l : Leg) : Type 0 where
   pub start : l .start < size
   pub run : l .run < size
-  pub behind : l .back ≡ true → 1 ≤ l .run
+  pub behind : Proper (runOf l)
 
 abbrev pub EachFits : ℕ → List Leg → Type 0
 EachFits size [] = Unit {0}

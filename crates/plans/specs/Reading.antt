@@ -2,46 +2,44 @@
 -- or 10). A byte after the last line is 11, at the number of the line it begins.' The limits and the number of the first line are parameters.
 -- Assumes nothing.
 use Prim.Native.Nat.{ℕ, zero, suc}
-use mathlib.Core.Bool.{true, false}
 use mathlib.Core.List.{List, [], _∷_, _++_}
 use Rattle.listing.specs.Count.{count}
 use Rattle.promise.specs.Plan.{Leg}
 use Rattle.words.specs.Told.{Told, accepted, refused, atLine, then}
-use Rattle.text_numbers.specs.Signed.{Signed, ahead, behind}
+use Rattle.words.specs.declared.Signed.{Signed}
 use Rattle.plan_lines.specs.Field.{Field, Got, fieldIn, unsigned, signed}
 use Rattle.plans.specs.Grammar.{Planned, Limits, portsKey, legsKey, startKey, runKey}
 
 -- ---- the four kinds of line
 
 -- 1: ports not 2 to the most
-abbrev pub portsField : Limits → Field ℕ
+abbrev pub portsField : Limits → Field
 portsField most = unsigned (most .largest) portsKey 2 (suc (most .ports)) 1
 
 -- 9: legs not 1 to the most
-abbrev pub legsField : Limits → Field ℕ
+abbrev pub legsField : Limits → Field
 legsField most = unsigned (most .largest) legsKey 1 (suc (most .legs)) 9
 
 -- 6: rank not below the count
-abbrev pub startField : ℕ → ℕ → Field ℕ
+abbrev pub startField : ℕ → ℕ → Field
 startField largest size = unsigned largest startKey 0 size 6
 
 -- 10: run too long
-abbrev pub runField : ℕ → ℕ → Field Signed
+abbrev pub runField : ℕ → ℕ → Field
 runField largest size = signed largest runKey 0 size 10
 
 -- ---- legs and plans
 
 -- a leg by its start and its run
 abbrev pub legBy : ℕ → Signed → Leg
-legBy start (ahead n) = record { start = start; back = false; run = n }
-legBy start (behind n) = record { start = start; back = true; run = n }
+legBy start s = record { start = start; back = s .back; run = s .magnitude }
 
 -- the two lines of a leg among `size` ranks
 unfoldable pub legIn : ℕ → ℕ → ℕ → List ℕ → Told (Got Leg)
 legIn largest size line t =
     then (fieldIn (startField largest size) line t)
     (λ s. then (fieldIn (runField largest size) (suc line) (s .rest))
-    (λ r. accepted (record { value = legBy (s .value) (r .value); rest = r .rest })))
+    (λ r. accepted (record { value = legBy (s .value .magnitude) (r .value); rest = r .rest })))
 
 -- the end of the text: a byte more is 11
 abbrev pub ended : ℕ → List ℕ → Told (List Leg)
@@ -67,4 +65,4 @@ unfoldable pub planIn : Limits → ℕ → List ℕ → Told Planned
 planIn most first t =
     then (fieldIn (portsField most) first t)
     (λ p. then (fieldIn (legsField most) (suc first) (p .rest))
-    (λ k. withPorts (p .value) (legsIn (most .largest) (count (p .value)) (k .value) (suc (suc first)) (k .rest))))
+    (λ k. withPorts (p .value .magnitude) (legsIn (most .largest) (count (p .value .magnitude)) (k .value .magnitude) (suc (suc first)) (k .rest))))

@@ -2,15 +2,16 @@
 use crate::Plan;
 use crate::ReadPlan;
 use pattern_steps::counts::count_of;
-use plan_lines::Numbered;
-use plan_lines::Run;
+use plan_lines::LineRead;
 use plan_lines::Values;
-use plan_lines::number_at;
-use plan_lines::run_at;
+use plan_lines::value_at;
+use words::Leg;
 use words::Outcome;
 use words::Reason;
 use words::Refusal;
+use words::Signed;
 use words::refusals::at_line;
+use words::signs::with_sign;
 ghost use mathlib.Core.Path.{_≡_};
 ghost use Prim.Native.Nat.{_≤_, _<_};
 ghost use lib.ListN.{length, drop};
@@ -19,12 +20,12 @@ ghost use Rattle.listing.specs.Limits.{mostPorts, mostLegs, largest64};
 ghost use Rattle.words.specs.Meaning.{refusalOf};
 ghost use Rattle.plans.specs.Reading.{legIn, legsIn, withPorts};
 ghost use Rattle.plans.specs.Places.{legTold, LegWithin};
-ghost use Rattle.plans.specs.Answers.{signedRun, Answers};
+ghost use Rattle.plans.specs.Answers.{Answers};
 ghost use Rattle.plans.specs.Calls.{readPlanOf};
 
-// A leg that was read: its start, whether it runs backward, the magnitude of its run, and the place after its lines.
+// A leg that was read, and the place after its lines.
 pub enum LegRead {
-    Leg(u64, bool, u64, usize),
+    Leg(Leg, usize),
     Refused(Refusal),
 }
 
@@ -43,14 +44,6 @@ fn refused(f: Refusal) -> ReadPlan
     }
 }
 
-// A run with its sign.
-fn signed_run(back: bool, run: u64) -> i64
-    requires { ⌜ run < 9223372036854775808 ⌝ }
-    ensures { λ r. ⌜ r ≡ signedRun back run ⌝ }
-{
-    if back { 0 - run as i64 } else { run as i64 }
-}
-
 // The two lines of a leg that begin at a place: start, and then run.
 fn leg_at(text: &[u8], at: usize, count: u64, line: u8) -> LegRead
     requires { ⌜ (at ≤ length (now text)) × (line < 255) ⌝ }
@@ -58,22 +51,30 @@ fn leg_at(text: &[u8], at: usize, count: u64, line: u8) -> LegRead
     ensures within { λ r. ⌜ LegWithin (now (text .entry)) r ⌝ }
 {
     let good_starts = Values {
+        sign: false,
         low: 0,
         below: count,
         reason: Reason::Rank,
     };
-    match number_at(text, at, b"start=", good_starts, line) {
-        Numbered::Refused(f) => LegRead::Refused(f),
-        Numbered::Number(start, next) => {
+    match value_at(text, at, b"start=", good_starts, line) {
+        LineRead::Refused(f) => LegRead::Refused(f),
+        LineRead::Value(start, next) => {
             let good_runs = Values {
+                sign: true,
                 low: 0,
                 below: count,
                 reason: Reason::Run,
             };
-            match run_at(text, next, b"run=", good_runs, line + 1) {
-                Run::Refused(f) => LegRead::Refused(f),
-                Run::Ahead(m, after) => LegRead::Leg(start, false, m, after),
-                Run::Behind(m, after) => LegRead::Leg(start, true, m, after),
+            match value_at(text, next, b"run=", good_runs, line + 1) {
+                LineRead::Refused(f) => LegRead::Refused(f),
+                LineRead::Value(run, after) => {
+                    let leg = Leg {
+                        start: start.magnitude,
+                        back: run.back,
+                        run: run.magnitude,
+                    };
+                    LegRead::Leg(leg, after)
+                }
             }
         }
     }
@@ -94,11 +95,14 @@ fn read_legs(text: &[u8], from: usize, ports: u8, legs: u8) -> ReadPlan
             LegRead::Refused(f) => {
                 return refused(f);
             }
-            LegRead::Leg(start, back, run, next) => {
+            LegRead::Leg(leg, next) => {
                 let i = done as usize;
-                starts[i] = start;
-                let signed = signed_run(back, run);
-                runs[i] = signed;
+                starts[i] = leg.start;
+                let run = with_sign(Signed {
+                    back: leg.back,
+                    magnitude: leg.run,
+                });
+                runs[i] = run;
                 at = next;
                 done += 1;
             }
@@ -123,21 +127,28 @@ pub fn read_plan(text: &[u8]) -> ReadPlan
     ensures { λ r. ⌜ Answers mostLegs (readPlanOf (now (text .entry))) r ⌝ }
 {
     let good_ports = Values {
+        sign: false,
         low: 2,
         below: 21,
         reason: Reason::Ports,
     };
-    match number_at(text, 0, b"ports=", good_ports, 1) {
-        Numbered::Refused(f) => refused(f),
-        Numbered::Number(ports, at) => {
+    match value_at(text, 0, b"ports=", good_ports, 1) {
+        LineRead::Refused(f) => refused(f),
+        LineRead::Value(ports, at) => {
             let good_legs = Values {
+                sign: false,
                 low: 1,
                 below: 17,
                 reason: Reason::Legs,
             };
-            match number_at(text, at, b"legs=", good_legs, 2) {
-                Numbered::Refused(f) => refused(f),
-                Numbered::Number(legs, next) => read_legs(text, next, ports as u8, legs as u8),
+            match value_at(text, at, b"legs=", good_legs, 2) {
+                LineRead::Refused(f) => refused(f),
+                LineRead::Value(legs, next) => read_legs(
+                    text,
+                    next,
+                    ports.magnitude as u8,
+                    legs.magnitude as u8,
+                ),
             }
         }
     }

@@ -7,7 +7,9 @@ use Prim.Native.Nat.{ℕ}
 use lib.ListN.{replicate}
 use Rattle.listing.specs.Limits.{largest64}
 use Rattle.text_numbers.specs.Decimal.{digitIn, onward, numberIn, upTo, numberUpTo}
-use Rattle.text_numbers.specs.Signed.{Signed, ahead, behind, minus, signedUpTo}
+use Rattle.words.specs.Signs.{ahead, behind}
+use Rattle.words.specs.declared.Signed.{Signed}
+use Rattle.text_numbers.specs.Signed.{minus, signedUpTo}
 
 -- a text beside what it is
 pub record Case (A : Type 0) : Type 0 where

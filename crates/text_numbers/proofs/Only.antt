@@ -11,7 +11,7 @@ use Rattle.text_numbers.specs.Answers.{readIs, signedIs, TextOf}
 use Rattle.text_numbers.specs.declared.Read.{Read}
 use Rattle.text_numbers.specs.declared.Read.the-variants.{Number, Bad}
 use Rattle.text_numbers.specs.declared.ReadSigned.{ReadSigned}
-use Rattle.text_numbers.specs.declared.ReadSigned.the-variants.{Ahead, Behind, Bad as Signed-Bad}
+use Rattle.text_numbers.specs.declared.ReadSigned.the-variants.{Number as Signed-Number, Bad as Signed-Bad}
 use Rattle.text_numbers.specs.declared.Text.{Text}
 
 -- two answers of a reader that say the same number are the same
@@ -23,14 +23,9 @@ read-once Bad Bad e = refl
 
 -- and two that say the same signed number
 signed-once : (r s : ReadSigned) → signedIs r ≡ signedIs s → r ≡ s
-signed-once (Ahead m) (Ahead n) e = cc
-signed-once (Ahead m) (Behind n) e = cc
-signed-once (Ahead m) Signed-Bad e = cc
-signed-once (Behind m) (Ahead n) e = cc
-signed-once (Behind m) (Behind n) e = cc
-signed-once (Behind m) Signed-Bad e = cc
-signed-once Signed-Bad (Ahead n) e = cc
-signed-once Signed-Bad (Behind n) e = cc
+signed-once (Signed-Number m) (Signed-Number n) e = cc
+signed-once (Signed-Number m) Signed-Bad e = cc
+signed-once Signed-Bad (Signed-Number n) e = cc
 signed-once Signed-Bad Signed-Bad e = refl
 
 -- one answer meets `read_number`'s contract

@@ -1,6 +1,7 @@
 -- The text of a signed number and the signed number of a text are inverse, both ways: `signed-of-digits`, `digits-of-signed`.
 -- Assumes nothing.
 use mathlib.Core.Path.{_≡_, refl, sym, ap, _∙_}
+use mathlib.Core.Bool.{Bool, true, false, true≢false}
 use mathlib.Core.Logic.{_≢_, inl}
 use mathlib.Core.List.{List, [], _∷_}
 use mathlib.Core.Option.{Option, none, some}
@@ -11,7 +12,9 @@ use lib.ListN.{length, getD, take, drop, length-drop}
 use lib.Seq.{take-all}
 use Rattle.listing.proofs.Numbers.{either, same?}
 use Rattle.text_numbers.specs.Decimal.{digitsOf, onward, numberIn, upTo, numberUpTo}
-use Rattle.text_numbers.specs.Signed.{Signed, ahead, behind, magnitude, Proper, minus, signedDigits, plain, negative, signedUpTo}
+use Rattle.words.specs.Signs.{ahead, behind, Proper}
+use Rattle.words.specs.declared.Signed.{Signed}
+use Rattle.text_numbers.specs.Signed.{minus, signedDigits, plain, negative, signedUpTo}
 use Rattle.text_numbers.proofs.Inverse.{none-some, no-digit, onward-none}
 use Rattle.text_numbers.proofs.Limits.{none-up-to, number-up-to, digits-up-to}
 
@@ -75,23 +78,27 @@ signed-number most (b ∷ t) n e =
     (λ d. rw (ne-eqb b minus d) (ap plain e))
 
 -- the signed number of the text of a signed number is that signed number
-pub signed-of-digits : (most : ℕ) (s : Signed) → Proper s → magnitude s ≤ most → signedUpTo most (signedDigits s) ≡ some s
+signed-by : (most : ℕ) (back : Bool) (n : ℕ) → let s : Signed = record { back = back; magnitude = n } in
+    Proper s → n ≤ most → signedUpTo most (signedDigits s) ≡ some s
 unfolding signedUpTo
-signed-of-digits most (ahead n) p h = signed-number most (digitsOf n) n (number-up-to most n h)
-signed-of-digits most (behind n) p h = ap negative (number-up-to most n h) ∙ negative-some n p
+signed-by most false n p h = signed-number most (digitsOf n) n (number-up-to most n h)
+signed-by most true n p h = ap negative (number-up-to most n h) ∙ negative-some n (p refl)
+
+pub signed-of-digits : (most : ℕ) (s : Signed) → Proper s → s .magnitude ≤ most → signedUpTo most (signedDigits s) ≡ some s
+signed-of-digits most s p h = signed-by most (s .back) (s .magnitude) p h
 
 -- what a signed number that was read says of its text
 pub record Spelt (most : ℕ) (t : List ℕ) (s : Signed) : Type 0 where
   pub text : t ≡ signedDigits s
   pub proper : Proper s
-  pub within : magnitude s ≤ most
+  pub within : s .magnitude ≤ most
 
 -- what was read without `-`
 spelt-plain : (most : ℕ) (t : List ℕ) (o : Option ℕ) (s : Signed) → numberUpTo most t ≡ o → plain o ≡ some s → Spelt most t s
 spelt-plain most t none s e f = absurd (none-some s f)
 spelt-plain most t (some n) s e f =
     let x = digits-up-to most t n e in
-    let g : ahead n ≡ s = cc in rw (sym g) (record { text = x .0; proper = tt; within = x .1 })
+    let g : ahead n ≡ s = cc in rw (sym g) (record { text = x .0; proper = λ e. absurd (true≢false (sym e)); within = x .1 })
 
 -- what was read with it
 spelt-negative : (most : ℕ) (t : List ℕ) (o : Option ℕ) (s : Signed) → numberUpTo most t ≡ o → negative o ≡ some s → Spelt most (minus ∷ t) s
@@ -99,7 +106,7 @@ spelt-negative most t none s e f = absurd (none-some s f)
 spelt-negative most t (some zero) s e f = absurd (none-some s f)
 spelt-negative most t (some (suc k)) s e f =
     let x = digits-up-to most t (suc k) e in
-    let g : behind (suc k) ≡ s = cc in rw (sym g) (record { text = ap (λ l. minus ∷ l) (x .0); proper = omega arith; within = x .1 })
+    let g : behind (suc k) ≡ s = cc in rw (sym g) (record { text = ap (λ l. minus ∷ l) (x .0); proper = λ e. omega arith; within = x .1 })
 
 -- a text that is a signed number is the text of that signed number, which is not behind by 0
 pub digits-of-signed : (most : ℕ) (t : List ℕ) (s : Signed) → signedUpTo most t ≡ some s → Spelt most t s

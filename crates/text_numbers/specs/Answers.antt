@@ -7,11 +7,11 @@ use mathlib.Core.Option.{Option, none, some}
 use lib.ListN.{length, replicate}
 use Rattle.text_numbers.specs.Decimal.{digitsOf}
 use Rattle.text_numbers.specs.declared.Text.{Text}
-use Rattle.text_numbers.specs.Signed.{Signed, ahead, behind}
+use Rattle.words.specs.declared.Signed.{Signed}
 use Rattle.text_numbers.specs.declared.Read.{Read}
 use Rattle.text_numbers.specs.declared.Read.the-variants.{Number, Bad}
 use Rattle.text_numbers.specs.declared.ReadSigned.{ReadSigned}
-use Rattle.text_numbers.specs.declared.ReadSigned.the-variants.{Ahead, Behind, Bad as Signed-Bad}
+use Rattle.text_numbers.specs.declared.ReadSigned.the-variants.{Number as Signed-Number, Bad as Signed-Bad}
 
 -- a number, or none
 abbrev pub readIs : Read → Option ℕ
@@ -20,8 +20,7 @@ readIs Bad = none
 
 -- a signed number, or none
 abbrev pub signedIs : ReadSigned → Option Signed
-signedIs (Ahead n) = some (ahead n)
-signedIs (Behind n) = some (behind n)
+signedIs (Signed-Number s) = some s
 signedIs Signed-Bad = none
 
 -- r is the text of n: the digits of n at its front, and how many they are; the bytes after them are 0

@@ -1,26 +1,13 @@
 -- Signed numbers as text (the paper, 'Plans': '`-` only before a non-zero run; 64 bits unsigned for the magnitude').
 -- Assumes nothing.
-use Prim.Native.Nat.{ℕ, zero, suc, _≤_}
+use Prim.Native.Nat.{ℕ, zero, suc}
 use mathlib.Core.Bool.{cond}
 use mathlib.Core.List.{List, [], _∷_}
 use mathlib.Core.Option.{Option, none, some}
 use lib.Dec.{eqb}
+use Rattle.words.specs.Signs.{ahead, behind}
+use Rattle.words.specs.declared.Signed.{Signed}
 use Rattle.text_numbers.specs.Decimal.{digitsOf, numberUpTo}
-
--- a way and a magnitude: ahead, or behind
-pub data Signed : Type 0 where
-  ahead : ℕ → Signed
-  behind : ℕ → Signed
-
--- the magnitude
-abbrev pub magnitude : Signed → ℕ
-magnitude (ahead n) = n
-magnitude (behind n) = n
-
--- nothing is behind by 0
-abbrev pub Proper : Signed → Type 0
-Proper (ahead n) = Unit {0}
-Proper (behind n) = 1 ≤ n
 
 -- the byte `-`
 abbrev pub minus : ℕ
@@ -28,8 +15,7 @@ minus = 45
 
 -- the text of a signed number: its magnitude, with `-` before one that is behind
 abbrev pub signedDigits : Signed → List ℕ
-signedDigits (ahead n) = digitsOf n
-signedDigits (behind n) = minus ∷ digitsOf n
+signedDigits s = cond (s .back) (minus ∷ digitsOf (s .magnitude)) (digitsOf (s .magnitude))
 
 -- what a magnitude says without `-` before it
 abbrev pub plain : Option ℕ → Option Signed

@@ -1,4 +1,6 @@
 // Decimal numbers as text: read and written exactly as the paper has them. What a text means stands in specs/.
+use words::Signed;
+
 pub mod reading;
 pub mod writing;
 
@@ -8,15 +10,17 @@ pub enum Read {
     Bad,
 }
 
-// A signed number that a text is: ahead or behind by a magnitude; or that it is none.
+// A number by its sign that a text is, or that it is none.
 pub enum ReadSigned {
-    Ahead(u64),
-    Behind(u64),
+    Number(Signed),
     Bad,
 }
 
+// The most digits that a number of 64 bits has.
+pub const MOST_DIGITS: usize = 20;
+
 // A number's text: the first len bytes. The bytes after them are 0.
 pub struct Text {
-    pub bytes: [u8; 20],
+    pub bytes: [u8; MOST_DIGITS],
     pub len: usize,
 }

@@ -1,24 +1,29 @@
 // Numbers read from text. Every byte of the text is judged; no sum wraps.
 use crate::Read;
 use crate::ReadSigned;
+use words::Signed;
+use words::limits::LARGEST;
 ghost use mathlib.Core.Path.{_≡_};
 ghost use mathlib.Core.Option.{some};
 ghost use Rattle.listing.specs.Limits.{largest64};
 ghost use Rattle.text_numbers.specs.Decimal.{digitIn, andDigit, upTo, numberUpTo};
-ghost use Rattle.text_numbers.specs.Signed.{negative, signedUpTo};
+ghost use Rattle.text_numbers.specs.Signed.{plain, negative, signedUpTo};
 ghost use Rattle.text_numbers.specs.Answers.{readIs, signedIs};
+
+// The largest number whose tens are numbers of 64 bits.
+const MOST_TENS: u64 = LARGEST / 10;
 
 // The digit that a byte is.
 fn digit_in(b: u8) -> Read
     ensures { λ r. ⌜ readIs r ≡ digitIn b ⌝ }
 {
-    if b < 48 {
+    if b < b'0' {
         return Read::Bad;
     }
-    if 57 < b {
+    if b'9' < b {
         return Read::Bad;
     }
-    Read::Number((b - 48) as u64)
+    Read::Number((b - b'0') as u64)
 }
 
 // The number v and the digit d after it, where that is a number of 64 bits: v is not 0, and ten times v and d fit.
@@ -28,11 +33,11 @@ fn and_digit(v: u64, d: u64) -> Read
     if v < 1 {
         return Read::Bad;
     }
-    if 1844674407370955161 < v {
+    if MOST_TENS < v {
         return Read::Bad;
     }
     let tens = v * 10;
-    if 18446744073709551615 - tens < d {
+    if LARGEST - tens < d {
         return Read::Bad;
     }
     Read::Number(tens + d)
@@ -68,14 +73,35 @@ pub fn read_number(t: &[u8]) -> Read
     found
 }
 
-// Behind by m, where m is not 0.
-fn behind(m: u64) -> ReadSigned
-    ensures { λ r. ⌜ signedIs r ≡ negative (some m) ⌝ }
+// What was found, with no sign before it.
+pub fn ahead(found: Read) -> ReadSigned
+    ensures { λ r. ⌜ signedIs r ≡ plain (readIs found) ⌝ }
 {
-    if m < 1 {
-        return ReadSigned::Bad;
+    match found {
+        Read::Number(m) => ReadSigned::Number(Signed {
+            back: false,
+            magnitude: m,
+        }),
+        Read::Bad => ReadSigned::Bad,
     }
-    ReadSigned::Behind(m)
+}
+
+// What was found, with `-` before it: not before 0.
+fn behind(found: Read) -> ReadSigned
+    ensures { λ r. ⌜ signedIs r ≡ negative (readIs found) ⌝ }
+{
+    match found {
+        Read::Number(m) => {
+            if m < 1 {
+                return ReadSigned::Bad;
+            }
+            ReadSigned::Number(Signed {
+                back: true,
+                magnitude: m,
+            })
+        }
+        Read::Bad => ReadSigned::Bad,
+    }
 }
 
 // The signed number that a text is: `-` only before a magnitude that is not 0.
@@ -85,15 +111,9 @@ pub fn read_signed(t: &[u8]) -> ReadSigned
     if t.len() < 1 {
         return ReadSigned::Bad;
     }
-    if t[0] == 45 {
-        match read_number(&t[1..]) {
-            Read::Number(m) => behind(m),
-            Read::Bad => ReadSigned::Bad,
-        }
+    if t[0] == b'-' {
+        behind(read_number(&t[1..]))
     } else {
-        match read_number(t) {
-            Read::Number(m) => ReadSigned::Ahead(m),
-            Read::Bad => ReadSigned::Bad,
-        }
+        ahead(read_number(t))
     }
 }

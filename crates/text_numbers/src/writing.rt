@@ -1,4 +1,5 @@
 // Numbers written as text.
+use crate::MOST_DIGITS;
 use crate::Text;
 ghost use mathlib.Core.Path.{_≡_};
 ghost use mathlib.Core.List.{_++_};
@@ -21,19 +22,19 @@ pub fn places(n: u64) -> usize
 }
 
 // The digits of n, k of them, at the front of an array of zeros. They are set from the last to the first: place 1 is the last.
-fn spelt(n: u64, k: usize) -> [u8; 20]
+fn spelt(n: u64, k: usize) -> [u8; MOST_DIGITS]
     requires { ⌜ k ≡ length (digitsOf n) ⌝ }
     ensures { λ r. ⌜ r ≡ digitsOf n ++ replicate (20 - k) 0 ⌝ }
 {
-    let mut bytes = [0u8; 20];
+    let mut bytes = [0u8; MOST_DIGITS];
     let mut place: usize = 1;
     let mut rest = n;
     while 10 <= rest {
-        bytes[k - place] = 48 + (rest % 10) as u8;
+        bytes[k - place] = b'0' + (rest % 10) as u8;
         place += 1;
         rest /= 10;
     }
-    bytes[k - place] = 48 + rest as u8;
+    bytes[k - place] = b'0' + rest as u8;
     bytes
 }
 

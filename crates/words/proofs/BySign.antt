@@ -1,8 +1,8 @@
 -- A signed number by its sign. The code reads a signed value from its bits; `read z` is what it then has.
 -- Assumes nothing.
 use mathlib.Core.Path.{_≡_, refl, ap, sym, subst, _∙_}
-use mathlib.Core.Bool.{true, false, true≢false}
-use Prim.Native.Nat.{ℕ, suc, _+_, _-_}
+use mathlib.Core.Bool.{Bool, true, false, true≢false}
+use Prim.Native.Nat.{ℕ, zero, suc, _+_, _-_}
 use native.Mathlib.Numerals.{add-one}
 use native.Mathlib.Omega.{arith}
 use lib.Dec.{T, ltb}
@@ -12,7 +12,7 @@ use mir.Syntax.{w64}
 use mir.Val.{Fits, SFits, toZ, ofZ}
 use mir.ValLaws.{toZ-ofZ}
 use borrow.Author.Tests.{le-ltb, ltb-true}
-use Rattle.words.specs.Signs.{bySign, withSign}
+use Rattle.words.specs.Signs.{ahead, behind, Proper, bySign, withSign}
 use Rattle.words.specs.declared.Signed.{Signed}
 
 -- the number of a sign and a magnitude is the one that they were taken from
@@ -20,8 +20,14 @@ pub sign-back : (z : ℤ) → withSign (bySign z) ≡ z
 sign-back (pos n) = refl
 sign-back (negsuc n) = refl
 
-abbrev behindBy : ℕ → Signed
-behindBy m = record { back = true; magnitude = m }
+-- and a sign and a magnitude that are not behind by 0 are those of their number
+parts-by : (back : Bool) (n : ℕ) → let s : Signed = record { back = back; magnitude = n } in Proper s → bySign (withSign s) ≡ s
+parts-by true zero p = absurd (omega (arith, p refl))
+parts-by true (suc n) p = refl
+parts-by false n p = refl
+
+pub sign-parts : (s : Signed) → Proper s → bySign (withSign s) ≡ s
+sign-parts s p = parts-by (s .back) (s .magnitude) p
 
 abbrev read : ℤ → ℤ
 read z = toZ w64 (ofZ w64 z)
@@ -40,13 +46,13 @@ record Parts (z x : ℤ) (made : ℕ → ℤ) : Type 0 where
   from : x ≡ made steps
   is : made steps ≡ z
 
-behind : (z x : ℤ) → SFits w64 z → x ≡ z → ltZ x (pos 0) ≡ true → Parts z x negsuc
-behind (pos n) x f e t = let u : ltb n 0 ≡ true = ap (λ (y : ℤ). ltZ y (pos 0)) (sym e) ∙ t in absurd (omega (arith, ltb-true))
-behind (negsuc m) x f e t = record { steps = m; half = record { sfits = f .sfits }; from = e; is = refl }
+when-behind : (z x : ℤ) → SFits w64 z → x ≡ z → ltZ x (pos 0) ≡ true → Parts z x negsuc
+when-behind (pos n) x f e t = let u : ltb n 0 ≡ true = ap (λ (y : ℤ). ltZ y (pos 0)) (sym e) ∙ t in absurd (omega (arith, ltb-true))
+when-behind (negsuc m) x f e t = record { steps = m; half = record { sfits = f .sfits }; from = e; is = refl }
 
-ahead : (z x : ℤ) → SFits w64 z → x ≡ z → ltZ x (pos 0) ≡ false → Parts z x pos
-ahead (pos n) x f e t = record { steps = n; half = f; from = e; is = refl }
-ahead (negsuc m) x f e t =
+when-ahead : (z x : ℤ) → SFits w64 z → x ≡ z → ltZ x (pos 0) ≡ false → Parts z x pos
+when-ahead (pos n) x f e t = record { steps = n; half = f; from = e; is = refl }
+when-ahead (negsuc m) x f e t =
     let u : true ≡ false = ap (λ (y : ℤ). ltZ y (pos 0)) (sym e) ∙ t in
     absurd (true≢false (cc))
 
@@ -57,7 +63,7 @@ cast x m f e = subst (λ (y : ℤ). T (nonNeg y) × Fits w64 (natAbs y)) (sym e)
 module _ (z : ℤ) (f : SFits w64 z) where
   module _ (t : ltZ (read z) (pos 0) ≡ true) where
     b : Parts z (read z) negsuc
-    b = behind z (read z) f (toZ-ofZ w64 z f) t
+    b = when-behind z (read z) f (toZ-ofZ w64 z f) t
 
     -- the difference is the number of steps
     less : negsuc 0 -ℤ read z ≡ pos (b .steps)
@@ -76,15 +82,15 @@ module _ (z : ℤ) (f : SFits w64 z) where
     pub behind-more : Fits w64 (natAbs (read (negsuc 0 -ℤ read z)) + 1)
     behind-more = subst (λ (y : ℤ). Fits w64 (natAbs y + 1)) (sym differs) (record { fits = omega (arith, b .half .sfits) })
 
-    pub behind-is : record { back = true; magnitude = natAbs (read (negsuc 0 -ℤ read z)) + 1 } ≡ bySign z
-    behind-is = ap (λ (y : ℤ). record { back = true; magnitude = natAbs y + 1 }) differs ∙ ap (behindBy) (add-one (b .steps)) ∙ ap bySign (b .is)
+    pub behind-is : behind (natAbs (read (negsuc 0 -ℤ read z)) + 1) ≡ bySign z
+    behind-is = ap (λ (y : ℤ). behind (natAbs y + 1)) differs ∙ ap behind (add-one (b .steps)) ∙ ap bySign (b .is)
 
   module _ (t : ltZ (read z) (pos 0) ≡ false) where
     a : Parts z (read z) pos
-    a = ahead z (read z) f (toZ-ofZ w64 z f) t
+    a = when-ahead z (read z) f (toZ-ofZ w64 z f) t
 
     pub ahead-cast : T (nonNeg (read z)) × Fits w64 (natAbs (read z))
     ahead-cast = cast (read z) (a .steps) (a .half) (a .from)
 
-    pub ahead-is : record { back = false; magnitude = natAbs (read z) } ≡ bySign z
-    ahead-is = ap (λ (y : ℤ). record { back = false; magnitude = natAbs y }) (a .from) ∙ ap bySign (a .is)
+    pub ahead-is : ahead (natAbs (read z)) ≡ bySign z
+    ahead-is = ap (λ (y : ℤ). ahead (natAbs y)) (a .from) ∙ ap bySign (a .is)

@@ -1,7 +1,8 @@
-// Signed numbers taken apart: exact at the lowest 64-bit number.
+// Signed numbers taken apart, exact at the lowest 64-bit number, and put together.
 use crate::Signed;
 ghost use mathlib.Core.Path.{_≡_};
-ghost use Rattle.words.specs.Signs.{bySign};
+ghost use Prim.Native.Nat.{_<_};
+ghost use Rattle.words.specs.Signs.{bySign, withSign};
 
 // k by its sign. The magnitude of the lowest 64-bit number is 2^63.
 pub fn by_sign(k: i64) -> Signed
@@ -17,5 +18,17 @@ pub fn by_sign(k: i64) -> Signed
             back: false,
             magnitude: k as u64,
         }
+    }
+}
+
+// The number of a sign and a magnitude below 2^63.
+pub fn with_sign(s: Signed) -> i64
+    requires { ⌜ s .magnitude < 9223372036854775808 ⌝ }
+    ensures { λ r. ⌜ r ≡ withSign s ⌝ }
+{
+    if s.back {
+        0 - s.magnitude as i64
+    } else {
+        s.magnitude as i64
     }
 }

@@ -5,9 +5,8 @@ use lib.ListN.{drop}
 use borrow.Author.Needs.{needs}
 use Rattle.listing.specs.Limits.{largest64}
 use Rattle.words.specs.Told.{accepted}
-use Rattle.text_numbers.specs.Signed.{Signed, ahead, behind}
-use Rattle.plan_lines.specs.Field.{Got, fieldIn}
-use Rattle.plan_lines.specs.Places.{numberedTold, NumberWithin, runTold, RunWithin}
+use Rattle.plan_lines.specs.Field.{fieldIn}
+use Rattle.plan_lines.specs.Places.{lineTold, LineWithin}
 use Rattle.plans.specs.Reading.{startField}
 use Rattle.plans.proofs.Legs.{start-refused, run-refused, leg-taken}
 use Rattle.plans.proofs.reading.leg_at.Statement.{statement}
@@ -19,18 +18,18 @@ started : (c : tie.After-known-told2)
     let a = c .before .before .before .before .before .before .args in
     accepted (record { value = s .0; rest = drop {A = ℕ} (s .1 .0) (a .text .now) })
     ≡ fieldIn (startField largest64 (a .count)) (a .line) (drop {A = ℕ} (a .at) (a .text .now))
-started c = sym (ap (numberedTold _) (c .before .start .given .1)) ∙ c .before .before .before .number-at .ensures .0
+started c = sym (ap (lineTold _) (c .before .start .given .1)) ∙ c .before .before .before .value-at .ensures .0
 
-run-at-requires : tie.Need-run-at-requires
-run-at-requires c κs =
+value-at-requires-2 : tie.Need-value-at-requires-2
+value-at-requires-2 c κs =
     let s = c .before .before in
-    subst (NumberWithin _) (s .start .given .1) (s .before .before .number-at .ensures .1)
+    subst (LineWithin _) (s .start .given .1) (s .before .before .value-at .ensures .1)
 
 returns : tie.Need-returns
 returns c =
     let n = c .before .before .before in
     let a = n .before .before .before .args in
-    let e = sym (ap (numberedTold _) (c .before .f .given .1)) ∙ n .number-at .ensures .0 in
+    let e = sym (ap (lineTold _) (c .before .f .given .1)) ∙ n .value-at .ensures .0 in
     (start-refused largest64 (a .count) (a .line) (drop (a .at) (a .text .now)) _ _ e, tt)
 
 returns-2 : tie.Need-returns-2
@@ -38,7 +37,7 @@ returns-2 c =
     let r = c .before .before .before in
     let k = r .before .before in
     let a = k .before .before .before .before .before .before .args in
-    let e = sym (ap (runTold _) (c .before .f2 .given .1)) ∙ r .run-at .ensures .0 in
+    let e = sym (ap (lineTold _) (c .before .f2 .given .1)) ∙ r .value-at2 .ensures .0 in
     (run-refused largest64 (a .count) (a .line) (drop (a .at) (a .text .now)) _ (started k) _ _ e, tt)
 
 returns-3 : tie.Need-returns-3
@@ -46,21 +45,9 @@ returns-3 c =
     let r = c .before .before .before in
     let k = r .before .before in
     let a = k .before .before .before .before .before .before .args in
-    let m = c .before .m .given in
-    let g : Got Signed = record { value = ahead (m .0 .0); rest = drop (m .0 .1 .0) (a .text .now) } in (
-      leg-taken largest64 (a .count) (a .line) (drop (a .at) (a .text .now)) _ (started k) g (sym (ap (runTold _) (m .1)) ∙ r .run-at .ensures .0),
-      subst (RunWithin _) (m .1) (r .run-at .ensures .1),
-    )
-
-returns-4 : tie.Need-returns-4
-returns-4 c =
-    let r = c .before .before .before in
-    let k = r .before .before in
-    let a = k .before .before .before .before .before .before .args in
-    let m = c .before .m2 .given in
-    let g : Got Signed = record { value = behind (m .0 .0); rest = drop (m .0 .1 .0) (a .text .now) } in (
-      leg-taken largest64 (a .count) (a .line) (drop (a .at) (a .text .now)) _ (started k) g (sym (ap (runTold _) (m .1)) ∙ r .run-at .ensures .0),
-      subst (RunWithin _) (m .1) (r .run-at .ensures .1),
+    let g = c .before .run .given in (
+      leg-taken largest64 (a .count) (a .line) (drop (a .at) (a .text .now)) _ (started k) _ (sym (ap (lineTold _) (g .1)) ∙ r .value-at2 .ensures .0),
+      subst (LineWithin _) (g .1) (r .value-at2 .ensures .1),
     )
 
 pub leg-at-spec : {M : Type 1} → statement M
@@ -73,11 +60,9 @@ leg-at-spec =
     (λ c. search needs)
     (λ c. search needs)
     (λ c. search needs)
-    run-at-requires
-    (λ c. search needs)
+    value-at-requires-2
     (λ c. search needs)
     (λ c. search needs)
     returns
     returns-2
-    returns-3
-    returns-4)
+    returns-3)

@@ -9,10 +9,11 @@ use borrow.Author.Needs.{needs}
 use Rattle.listing.specs.Limits.{mostLegs, largest64}
 use Rattle.listing.proofs.Limits.{count-most}
 use Rattle.words.specs.Meaning.{refusalOf}
-use Rattle.plans.specs.Places.{legTold, LegWithin}
+use Rattle.plans.specs.Grammar.{runOf}
+use Rattle.plans.specs.Places.{legIs, legTold, LegWithin}
 use Rattle.plans.specs.Answers.{Answers}
 use Rattle.plans.proofs.Legs.{leg-accepted}
-use Rattle.plans.proofs.Runs.{stored-run}
+use Rattle.words.proofs.WithSign.{stored}
 use Rattle.plans.proofs.Turns.{Read, read-none, read-more, leg-refused, byte-after, plan-read}
 use Rattle.plans.proofs.reading.read_legs.Statement.{statement}
 use Rattle.plans.proofs.reading.read_legs.Tie as tie
@@ -25,12 +26,12 @@ abbrev μ-loop : tie.MeasureT-loop
 μ-loop text from ports legs count starts₀ runs₀ at₀ done₀ starts runs at done = legs - done
 
 -- the run that was read is below the count, so below 2^63
-below : (c : tie.After-known-told2 Inv-loop μ-loop) → c .before .start .given .0 .1 .1 .0 < 9223372036854775808
+below : (c : tie.After-known-told2 Inv-loop μ-loop) → c .before .leg .given .0 .0 .run < 9223372036854775808
 below c =
     let l = c .before .before .before in
     let n = l .before .before .before in
     let a = n .before .before in
-    let e = sym (l .leg-at .ensures .0) ∙ ap (legTold _) (c .before .start .given .1) in
+    let e = sym (l .leg-at .ensures .0) ∙ ap (legTold _) (c .before .leg .given .1) in
     omega (arith, leg-accepted largest64 _ _ _ _ e .fits .run, n .count-of .ensures, count-most (a .args .ports) (a .pre .2))
 
 returns : tie.Need-returns Inv-loop μ-loop
@@ -50,12 +51,12 @@ loop-again c =
     let i = l .before .before in
     let n = i .before in
     let a = n .before .before in
-    let g = k .before .start .given in (
+    let g = k .before .leg .given in (
       search needs,
       subst (LegWithin _) (g .1) (l .leg-at .ensures .1),
       read-more largest64 _ mostLegs (a .args .legs) 3 _ _ _ _ (i .loop .done) (i .loop .inv .2) _ _ (l .before .loop-test .taken)
           (omega (arith, l .before .loop-test .taken, a .pre .3)) (sym (ap (legTold _) (g .1)) ∙ l .leg-at .ensures .0)
-          (ap (λ z. toZ w64 (ofZ w64 z)) (c .signed-run .ensures) ∙ stored-run (g .0 .1 .1 .0) (below k) (g .0 .1 .0)),
+          (ap (λ z. toZ w64 (ofZ w64 z)) (c .with-sign .ensures) ∙ stored (runOf (legIs (g .0 .0))) (below k)),
     )
 
 returns-2 : tie.Need-returns-2 Inv-loop μ-loop
