@@ -12,9 +12,9 @@ use Rattle.words.specs.Meaning.{orderOf}
 use Rattle.words.specs.declared.Line.{Line}
 use Rattle.words.specs.declared.Line.the-variants.{Movement, Mark, End}
 use Rattle.words.specs.Told.{Told, accepted, refused, nowhere}
-use Rattle.plans.specs.Answers.{heldOf}
+use Rattle.plan_rules.specs.Places.{heldOf}
 use Rattle.plans.specs.Calls.{readPlanOf}
-use Rattle.plans.specs.declared.Plan.{Plan}
+use Rattle.plan_rules.specs.declared.Plan.{Plan}
 use Rattle.promise.specs.Campaign as model
 use Rattle.promise.specs.Campaign.{Call, request, movement, mark, theEnd, taken, refusal}
 use Rattle.campaign_state.specs.State.{answerText, width, settingOf, momentOf, atMoment}

@@ -14,7 +14,7 @@ use Rattle.promise.specs.Campaign as model
 use Rattle.promise.specs.Campaign.{Setting, Call, request, report, Report, reportOf, isClosing, tallied, withMark, placed}
 use Rattle.promise.specs.Campaign.{Answer, movement, mark, theEnd, taken, refusal, here, answer, closed, heard, after}
 use Rattle.promise.specs.Bench.{Turn, run, leaves}
-use Rattle.plans.specs.Calls.{device}
+use Rattle.plan_rules.specs.Planned.{device}
 use Rattle.plan_rules.specs.Rules.{planRuled}
 use Rattle.campaign_state.specs.State.{settingOf, momentOf, atMoment}
 use Rattle.campaign_state.specs.Fitness.{emptyFrom, placesFit}

@@ -12,7 +12,7 @@ use Rattle.promise.specs.Fitness as promise
 use Rattle.promise.proofs.Tests.{Tells, tells-same}
 use Rattle.promise.proofs.Ways.{way-found}
 use Rattle.promise.proofs.Fitness as promise-proofs
-use Rattle.plans.specs.Calls.{device}
+use Rattle.plan_rules.specs.Planned.{device}
 use Rattle.campaign_way.specs.Coming.{nextOf}
 use Rattle.plan_rules.specs.Rules.{planRuled}
 use Rattle.plan_rules.proofs.Rules.{tells-ruled}

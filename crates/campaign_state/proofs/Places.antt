@@ -22,9 +22,8 @@ use Rattle.promise.proofs.Tests.{Tells, tells-and, tells-eqb}
 use Rattle.pattern_carry.specs.Panels.{wrongFrom}
 use Rattle.words.specs.declared.Leg.{Leg}
 use Rattle.campaign_way.proofs.Differ.{same-wrong}
-use Rattle.plans.specs.Grammar.{LegFits}
-use Rattle.plans.specs.Calls.{device}
-use Rattle.plans.proofs.Plans.{each-fits}
+use Rattle.plan_rules.specs.Planned.{LegFits, device}
+use Rattle.plan_rules.proofs.Held.{each-fits}
 use Rattle.plan_rules.specs.Rules.{legsOf, Beyond, Ruled, planRuled}
 use Rattle.plan_rules.proofs.Rules.{ruled, legs-many, beyond-here, beyond-later, beyond-rest, beyond-all}
 use Rattle.plan_rules.proofs.Marks.{marks-more, marks-fit, marks-all, number-before}

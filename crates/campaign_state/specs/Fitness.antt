@@ -11,10 +11,9 @@ use Rattle.promise.specs.Tests.{implies}
 use Rattle.promise.specs.Campaign as model
 use Rattle.promise.specs.Campaign.{here, closedMarks}
 use Rattle.promise.specs.Fitness as promise
-use Rattle.plans.specs.Calls.{device}
-use Rattle.plan_rules.specs.Rules.{legIs}
+use Rattle.plan_rules.specs.Planned.{device}
+use Rattle.plan_rules.specs.Rules.{legIs, legsOf, Beyond, Ruled, planRuled}
 use Rattle.words.specs.declared.Leg.{Leg}
-use Rattle.plan_rules.specs.Rules.{legsOf, Beyond, Ruled, planRuled}
 use Rattle.campaign_state.specs.State.{settingOf, momentOf}
 use Rattle.campaign_state.specs.declared.State.{State}
 

@@ -7,7 +7,7 @@ use Prim.Native.Nat.{ℕ, zero, suc}
 use Rattle.listing.specs.Count.{count}
 use Rattle.words.specs.Told.{atLine}
 use Rattle.text_keys.specs.Parts.{newline, cut, after}
-use Rattle.plans.specs.Grammar.{Limits}
+use Rattle.plan_rules.specs.Planned.{Limits}
 use Rattle.plan_lines.specs.Field.{lineIn, between, numberIn, Field, fieldIn}
 use Rattle.plans.specs.Reading.{portsField, legsField, startField, runField, legIn, legsIn, planIn}
 use Rattle.demands.specs.One.{OneOf, Refuses}

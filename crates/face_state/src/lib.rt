@@ -1,6 +1,6 @@
 // The state of a campaign in words: each field at its place.
 use campaign_state::State;
-use plans::Plan;
+use plan_rules::Plan;
 use words::signs::by_sign;
 ghost use mathlib.Core.Path.{_≡_};
 ghost use mathlib.Core.Bool.{false};

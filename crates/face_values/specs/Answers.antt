@@ -3,7 +3,7 @@
 use Prim.Native.Nat.{ℕ}
 use mathlib.Core.List.{List, [], _∷_}
 use Rattle.words.specs.Told.{Told, accepted, refused, spotNumber}
-use Rattle.plans.specs.Answers.{padded}
+use Rattle.words.specs.Padded.{padded}
 
 -- 'a number: 0 if it was accepted, else the number of the refusal'
 abbrev pub numberTold : {A : Type 0} → Told A → ℕ

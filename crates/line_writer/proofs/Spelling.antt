@@ -10,7 +10,7 @@ use native.Mathlib.Numerals.{add-one}
 use native.Mathlib.Omega.{arith}
 use lib.ListN.{length, take, drop, set, getD, replicate, length-append, length-take}
 use lib.Seq.{paste, paste-suc, take-paste, take-length}
-use Rattle.text_numbers.specs.Decimal.{digitsOf}
+use Rattle.text_numbers.specs.Decimal.{digitsOf, mostDigits}
 use Rattle.text_numbers.specs.Answers.{TextOf}
 use Rattle.text_numbers.specs.declared.Text.{Text}
 use Rattle.text_numbers.proofs.Lengths.{digits-at-most}
@@ -127,7 +127,7 @@ digits-8 n h = digits-at-most 2 n (omega arith)
 
 -- a number's text fits its array
 pub text-within : (n : ℕ) (r : Text) → TextOf n r → r .len ≤ length (r .bytes)
-text-within n r h = omega (arith, h .len, ap length (h .bytes), length-append (digitsOf n) (replicate (20 - r .len) 0))
+text-within n r h = omega (arith, h .len, ap length (h .bytes), length-append (digitsOf n) (replicate (mostDigits - length (digitsOf n)) 0))
 
 -- ---- the first n bytes of s at the front of d
 

@@ -1,9 +1,9 @@
 -- The marks of the first legs: one leg more, the number of a mark, and that they are few enough to count.
 -- Assumes nothing.
-use mathlib.Core.Path.{_≡_, refl, sym, ap, _∙_}
+use mathlib.Core.Path.{_≡_, refl, sym, ap, subst, _∙_}
 use mathlib.Core.List.{List, [], _∷_}
 use Prim.Native.Nat.{ℕ, zero, suc, _+_, _*_, _≤_, _<_}
-use native.Mathlib.Nat.{mul-le-mul-right}
+use native.Mathlib.Nat.{le-trans, mul-le-mul, mul-le-mul-right}
 use native.Mathlib.Numerals.{add-one}
 use native.Mathlib.Omega.{arith}
 use lib.ListN.{length, take}
@@ -11,10 +11,10 @@ use lib.Seq.{take-length}
 use Rattle.promise.specs.Plan.{Leg, legAt, marks, number}
 use Rattle.listing.specs.Count.{count}
 use Rattle.listing.specs.Limits.{mostLegs, largest64}
+use Rattle.listing.proofs.Counts.{count-grows}
 use Rattle.listing.proofs.Limits.{count-most}
-use Rattle.plans.specs.Calls.{device}
-use Rattle.plans.specs.declared.Plan.{Plan}
-use Rattle.plans.proofs.Longest.{marks-few}
+use Rattle.plan_rules.specs.Planned.{Planned, Limits, device, EachFits, Fits}
+use Rattle.plan_rules.specs.declared.Plan.{Plan}
 use Rattle.plan_rules.specs.Rules.{legsOf, Ruled}
 
 -- one leg more
@@ -43,6 +43,24 @@ number-before (l ∷ ls) (suc i) k h = omega (arith, number-before ls i k (omega
 -- all legs together
 pub marks-all : (ls : List Leg) (i : ℕ) → i ≡ length ls → marks (take i ls) ≡ marks ls
 marks-all ls i e = ap (λ j. marks (take j ls)) e ∙ ap marks (take-length ls)
+
+-- of legs among `size` ranks the first i have at most i times as many marks
+pub marks-few : (size : ℕ) (ls : List Leg) → EachFits size ls → (i : ℕ) → marks (take i ls) ≤ i * size
+unfolding marks
+marks-few size ls fits zero = omega arith
+marks-few size [] fits (suc i) = omega arith
+marks-few size (l ∷ ls) fits (suc i) = omega (arith, fits .0 .run, marks-few size ls (fits .1) i)
+
+-- no count of fewer ports, from 1 on, is larger
+pub count-within : (n most : ℕ) → 1 ≤ n → n ≤ most → count n ≤ count most
+count-within zero most h l = absurd (omega arith)
+count-within (suc m) most h l = count-grows m most l
+
+-- a plan that fits has at most the most legs times the count of the most ports
+pub marks-bounded : (most : Limits) (p : Planned) → Fits most p → marks (p .legs) ≤ most .legs * count (most .ports)
+marks-bounded most p h =
+    le-trans (subst (λ ls. marks ls ≤ length (p .legs) * count (p .ports)) (take-length (p .legs)) (marks-few (count (p .ports)) (p .legs) (h .each) (length (p .legs))))
+    (mul-le-mul (h .manyLegs) (count-within (p .ports) (most .ports) (omega (arith, h .fewPorts)) (h .manyPorts)))
 
 -- they fit 64 bits on the device
 pub marks-fit : (p : Plan) → Ruled device p → (i : ℕ) → i ≤ mostLegs → marks (take i (legsOf p)) ≤ largest64

@@ -14,9 +14,9 @@ use Rattle.listing.specs.Count.{count}
 use Rattle.listing.proofs.Numbers.{either, below?}
 use Rattle.promise.specs.Plan.{Leg, legAt}
 use Rattle.promise.proofs.Tests.{Tells, tells-and, tells-eqb, tells-leb, tells-ltb}
-use Rattle.plans.specs.Grammar.{Limits, EachFits}
-use Rattle.plans.specs.Answers.{legHeld, legsHeld}
-use Rattle.plans.specs.declared.Plan.{Plan}
+use Rattle.plan_rules.specs.Planned.{Limits, EachFits}
+use Rattle.plan_rules.specs.Places.{legHeld, legsHeld}
+use Rattle.plan_rules.specs.declared.Plan.{Plan}
 use Rattle.plan_rules.specs.Rules.{legsOf, places, Beyond, Ruled, legRuled, unused, placesRuled, planRuled}
 use Rattle.plan_rules.proofs.Held.{length-held, held-at, legs-from}
 

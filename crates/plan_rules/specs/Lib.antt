@@ -1,1 +1,3 @@
+pub mod Planned
+pub mod Places
 pub mod Rules

@@ -10,9 +10,14 @@ use lib.IntN.{pos}
 use lib.ListN.{length, getD}
 use Rattle.listing.specs.Count.{count}
 use Rattle.promise.specs.Plan.{Leg}
-use Rattle.plans.specs.Grammar.{Limits, Fits}
-use Rattle.plans.specs.Answers.{legsHeld, plannedOf}
-use Rattle.plans.specs.declared.Plan.{Plan}
+use Rattle.words.specs.declared.Leg as words
+use Rattle.plan_rules.specs.Planned.{Limits, Fits}
+use Rattle.plan_rules.specs.Places.{legsHeld, plannedOf}
+use Rattle.plan_rules.specs.declared.Plan.{Plan}
+
+-- a leg of the model
+abbrev pub legIs : words.Leg → Leg
+legIs l = record { start = l .start; back = l .back; run = l .run }
 
 -- the legs of a plan, and all its places, each as a leg
 abbrev pub legsOf : Plan → List Leg

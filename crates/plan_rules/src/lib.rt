@@ -1,6 +1,5 @@
-// The legs that a plan's places hold: whether they are within the rules, a leg by its number, the marks before it. Inner pieces of the campaign.
+// A plan in places, and the legs that they hold: whether they are within the rules, a leg by its number, the marks before it. Inner pieces of the campaign.
 use pattern_steps::counts::count_of;
-use plans::Plan;
 use words::Leg;
 use words::signs::by_sign;
 ghost use mathlib.Core.Path.{_≡_};
@@ -8,10 +7,17 @@ ghost use mathlib.Core.Bool.{true, cond};
 ghost use Prim.Native.Nat.{_≤_, _<_};
 ghost use lib.ListN.{take};
 ghost use Rattle.promise.specs.Plan.{legAt, marks};
-ghost use Rattle.plans.specs.Answers.{legHeld};
-ghost use Rattle.plans.specs.Places.{legIs};
-ghost use Rattle.plans.specs.Calls.{device};
-ghost use Rattle.plan_rules.specs.Rules.{legsOf, places, legRuled, unused, placesRuled, planRuled};
+ghost use Rattle.plan_rules.specs.Places.{legHeld};
+ghost use Rattle.plan_rules.specs.Rules.{legIs, legsOf, places, legRuled, unused, placesRuled, planRuled};
+ghost use Rattle.plan_rules.specs.Planned.{device};
+
+// A plan: its ports, its legs, and for each leg the rank it starts at and its run. The places beyond the legs are 0.
+pub struct Plan {
+    pub ports: u8,
+    pub legs: u8,
+    pub starts: [u64; 16],
+    pub runs: [i64; 16],
+}
 
 // The leg that a start and a run are.
 fn leg_of(start: u64, run: i64) -> Leg

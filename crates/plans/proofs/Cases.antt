@@ -16,9 +16,10 @@ use Rattle.text_numbers.specs.Decimal.{glyph, spell, digitsOf, digitIn, onward,
 use Rattle.text_numbers.specs.Signed.{minus, signedUpTo}
 use Rattle.text_numbers.proofs.Cases.{allButOne}
 use Rattle.plan_lines.specs.Field.{fieldText, lineIn, between, fieldIn}
-use Rattle.plans.specs.Grammar.{Planned, portsKey, legsKey, startKey, runKey, legsText, planText}
+use Rattle.plans.specs.Grammar.{portsKey, legsKey, startKey, runKey, legsText, planText}
+use Rattle.plan_rules.specs.Planned.{Planned, device}
 use Rattle.plans.specs.Reading.{legIn, legsIn, planIn}
-use Rattle.plans.specs.Calls.{device, readPlanOf}
+use Rattle.plans.specs.Calls.{readPlanOf}
 use Rattle.plans.proofs.Plans.{fits-accepted}
 use Rattle.plans.proofs.Longest.{device-wide}
 

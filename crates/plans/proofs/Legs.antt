@@ -4,7 +4,7 @@
 use mathlib.Core.Path.{_≡_, refl, sym, ap, _∙_}
 use mathlib.Core.Bool.{true≢false}
 use mathlib.Core.List.{List, [], _∷_, _++_, append-assoc}
-use Prim.Native.Nat.{ℕ, zero, suc, _+_, _≤_, _<_}
+use Prim.Native.Nat.{ℕ, zero, suc, _+_, _≤_}
 use native.Mathlib.Numerals.{add-one}
 use native.Mathlib.Omega.{arith}
 use lib.ListN.{length}
@@ -18,8 +18,9 @@ use Rattle.text_numbers.specs.Signed.{signedDigits}
 use Rattle.plan_lines.specs.Field.{fieldText, Got, fieldIn}
 use Rattle.words.proofs.Told.{then-accepted, accepted-once}
 use Rattle.plan_lines.proofs.Numbers.{number-text, number-accepted, value-text, value-accepted}
-use Rattle.plans.specs.Grammar.{startKey, runKey, runOf, legText, legsText, LegFits, EachFits}
-use Rattle.plans.specs.Reading.{startField, runField, legBy, legIn, preceded, legsIn}
+use Rattle.plans.specs.Grammar.{startKey, runKey, legText, legsText}
+use Rattle.plan_rules.specs.Planned.{runOf, LegFits, EachFits, legBy}
+use Rattle.plans.specs.Reading.{startField, runField, legIn, preceded, legsIn}
 
 -- ---- the two lines of a leg
 

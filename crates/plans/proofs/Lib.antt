@@ -1,6 +1,5 @@
 pub mod Legs
 pub mod Plans
-pub mod Runs
 pub mod Turns
 pub mod Longest
 pub mod Only

@@ -1,14 +1,13 @@
 -- How long the text of a plan is, and how many marks a plan has. Bounds over the limits (`text-bounded`, `marks-bounded`), at the device with 20 ports
 -- (`text-801`, `marks-most`), and one plan that attains both (`longest`).
 -- Assumes nothing.
-use mathlib.Core.Path.{_≡_, ap, subst, _∙_}
+use mathlib.Core.Path.{_≡_, ap, _∙_}
 use mathlib.Core.Bool.{Bool, true, false}
 use mathlib.Core.List.{List, [], _∷_, _++_}
 use Prim.Native.Nat.{ℕ, zero, suc, _+_, _*_, _≤_, _<_}
-use native.Mathlib.Nat.{le-trans, mul-le-mul}
+use native.Mathlib.Nat.{mul-le-mul}
 use native.Mathlib.Omega.{arith}
-use lib.ListN.{length, take, replicate, length-append, length-replicate}
-use lib.Seq.{take-length}
+use lib.ListN.{length, replicate, length-append, length-replicate}
 use Rattle.listing.specs.Count.{count}
 use Rattle.listing.specs.Limits.{mostPorts, mostLegs}
 use Rattle.listing.proofs.Limits.{count-20, most-marks}
@@ -18,9 +17,11 @@ use Rattle.text_numbers.specs.Decimal.{digitsOf}
 use Rattle.text_numbers.specs.Signed.{signedDigits}
 use Rattle.text_numbers.proofs.Lengths.{digits-at-most, digits-above, digits-no-fewer}
 use Rattle.plan_lines.specs.Field.{fieldText}
-use Rattle.plans.specs.Grammar.{Planned, Limits, Wide, portsKey, legsKey, startKey, runKey, runOf, legText, legsText, planText, LegFits, EachFits, Fits}
-use Rattle.plans.specs.Calls.{device, readPlanOf}
-use Rattle.plans.proofs.Plans.{count-within, fits-accepted, accepted-fits}
+use Rattle.plans.specs.Grammar.{Wide, portsKey, legsKey, startKey, runKey, legText, legsText, planText}
+use Rattle.plan_rules.specs.Planned.{Planned, Limits, runOf, LegFits, EachFits, Fits, device}
+use Rattle.plans.specs.Calls.{readPlanOf}
+use Rattle.plans.proofs.Plans.{fits-accepted, accepted-fits}
+use Rattle.plan_rules.proofs.Marks.{count-within, marks-bounded}
 
 -- the digits of a number, counted
 abbrev pub places : ℕ → ℕ
@@ -79,19 +80,6 @@ text-bounded most p h =
       field-length legsKey (digitsOf (length ls)),
       legs-length (count (p .ports)) ls (h .each),
     )
-
--- of legs among `size` ranks the first i have at most i times as many marks
-pub marks-few : (size : ℕ) (ls : List Leg) → EachFits size ls → (i : ℕ) → marks (take i ls) ≤ i * size
-unfolding marks
-marks-few size ls fits zero = omega arith
-marks-few size [] fits (suc i) = omega arith
-marks-few size (l ∷ ls) fits (suc i) = omega (arith, fits .0 .run, marks-few size ls (fits .1) i)
-
--- a plan that fits has at most the most legs times the count of the most ports
-pub marks-bounded : (most : Limits) (p : Planned) → Fits most p → marks (p .legs) ≤ most .legs * count (most .ports)
-marks-bounded most p h =
-    le-trans (subst (λ ls. marks ls ≤ length (p .legs) * count (p .ports)) (take-length (p .legs)) (marks-few (count (p .ports)) (p .legs) (h .each) (length (p .legs))))
-    (mul-le-mul (h .manyLegs) (count-within (p .ports) (most .ports) (omega (arith, h .fewPorts)) (h .manyPorts)))
 
 -- ---- at the device
 

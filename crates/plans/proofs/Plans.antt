@@ -2,14 +2,12 @@
 -- fits (`accepted-fits`). So a plan has one text, and a text is of one plan. Before them, what a reader concludes from the first two lines.
 -- Assumes nothing.
 use mathlib.Core.Path.{_≡_, refl, sym, ap, _∙_}
-use mathlib.Core.List.{List, [], _∷_, _++_}
-use Prim.Native.Nat.{ℕ, zero, suc, _≤_, _<_}
+use mathlib.Core.List.{List, _++_}
+use Prim.Native.Nat.{ℕ, suc, _≤_}
 use native.Mathlib.Nat.{le-trans}
 use native.Mathlib.Omega.{arith}
 use lib.ListN.{length}
 use Rattle.listing.specs.Count.{count}
-use Rattle.listing.proofs.Counts.{count-grows}
-use Rattle.promise.specs.Plan.{Leg, legAt}
 use Rattle.words.specs.Told.{Spot, accepted, refused}
 use Rattle.text_keys.specs.Parts.{firstOf}
 use Rattle.text_numbers.specs.Decimal.{digitsOf}
@@ -18,20 +16,11 @@ use Rattle.words.specs.Signs.{ahead}
 use Rattle.plan_lines.specs.Field.{fieldText, Got, fieldIn}
 use Rattle.words.proofs.Told.{then-accepted, accepted-once}
 use Rattle.plan_lines.proofs.Numbers.{number-text, number-accepted}
-use Rattle.plans.specs.Grammar.{Planned, Limits, Wide, portsKey, legsKey, legsText, planText, LegFits, EachFits, Fits}
+use Rattle.plans.specs.Grammar.{Wide, portsKey, legsKey, legsText, planText}
+use Rattle.plan_rules.specs.Planned.{Planned, Limits, Fits}
 use Rattle.plans.specs.Reading.{portsField, legsField, legsIn, withPorts, planIn}
 use Rattle.plans.proofs.Legs.{legs-text, legs-accepted}
-
--- a leg of legs that fit fits
-pub each-fits : (size : ℕ) (ls : List Leg) → EachFits size ls → (i : ℕ) → i < length ls → LegFits size (legAt ls i)
-each-fits size [] h i l = absurd (omega arith)
-each-fits size (x ∷ ls) h zero l = h .0
-each-fits size (x ∷ ls) h (suc i) l = each-fits size ls (h .1) i (omega arith)
-
--- no count of fewer ports, from 1 on, is larger
-pub count-within : (n most : ℕ) → 1 ≤ n → n ≤ most → count n ≤ count most
-count-within zero most h l = absurd (omega arith)
-count-within (suc m) most h l = count-grows m most l
+use Rattle.plan_rules.proofs.Marks.{count-within}
 
 -- ---- the first two lines
 

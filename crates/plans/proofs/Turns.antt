@@ -4,33 +4,24 @@
 use mathlib.Core.Path.{_≡_, refl, sym, ap, _∙_}
 use mathlib.Core.List.{List, [], _∷_, _++_, map, append-assoc, append-nil, map-append}
 use Prim.Native.Nat.{ℕ, suc, _+_, _-_, _*_, _≤_, _<_}
-use native.Mathlib.Numerals.{add-one}
 use native.Mathlib.Omega.{arith}
 use lib.IntN.{ℤ, pos}
 use lib.ListN.{length, set, replicate, length-append, length-map}
-use lib.Seq.{set-at, append-snoc}
 use Rattle.promise.specs.Plan.{Leg}
 use Rattle.words.specs.Told.{Told, Spot, accepted, refused, atLine}
 use Rattle.plan_lines.specs.Field.{Got}
 use Rattle.words.specs.Signs.{withSign}
-use Rattle.plans.specs.Grammar.{runOf}
+use Rattle.plan_rules.specs.Planned.{runOf}
 use Rattle.plans.specs.Reading.{legIn, ended, preceded, legsIn, withPorts}
-use Rattle.plans.specs.Answers.{padded, placed, Answers}
+use Rattle.plans.specs.Answers.{Answers}
+use Rattle.words.specs.Padded.{padded}
+use Rattle.plan_rules.specs.Places.{placed}
 use Rattle.words.specs.declared.Outcome.the-variants.{Accepted}
 use Rattle.plans.specs.declared.ReadPlan.{ReadPlan}
 use Rattle.plans.proofs.Legs.{legs-on, legs-refused}
+use Rattle.words.proofs.Padded.{padded-set}
 
 -- ---- places
-
--- the first place that is 0 gets the next entry
-pub padded-set : {A : Type 0} (most : ℕ) (z v : A) (l : List A) → length l < most → set (padded most z l) (length l) v ≡ padded most z (l ++ (v ∷ []))
-padded-set {A} most z v l h =
-    let one : most - length l ≡ suc (most - suc (length l)) = omega arith in
-    let all : length (l ++ (v ∷ [])) ≡ suc (length l) = length-append l (v ∷ []) ∙ add-one (length l) in
-    ap (λ k. set (l ++ replicate k z) (length l) v) one
-    ∙ set-at l z (replicate (most - suc (length l)) z) v (length l) refl
-    ∙ sym (append-snoc l v (replicate (most - suc (length l)) z))
-    ∙ ap (λ k. (l ++ (v ∷ [])) ++ replicate (most - k) z) (sym all)
 
 -- the next entry of a list that is made of legs
 pub padded-leg : {A : Type 0} (most : ℕ) (z : A) (f : Leg → A) (ls : List Leg) (l : Leg) (done : ℕ) → length ls ≡ done → done < most

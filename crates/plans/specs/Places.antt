@@ -5,15 +5,11 @@ use mathlib.Core.List.{List}
 use lib.ListN.{length, drop}
 use Rattle.promise.specs.Plan.{Leg}
 use Rattle.words.specs.Told.{Told, accepted}
-use Rattle.words.specs.declared.Leg as words
+use Rattle.plan_rules.specs.Rules.{legIs}
 use Rattle.words.specs.Meaning.{refusalOf}
 use Rattle.plan_lines.specs.Field.{Got}
 use Rattle.plans.specs.declared.reading.LegRead.{LegRead}
 use Rattle.plans.specs.declared.reading.LegRead.the-variants.{Leg as Leg-Read, Refused as Leg-Refused}
-
--- a leg of the model
-abbrev pub legIs : words.Leg → Leg
-legIs l = record { start = l .start; back = l .back; run = l .run }
 
 -- a leg, and the text from the place after its lines on
 abbrev pub legTold : List ℕ → LegRead → Told (Got Leg)

@@ -6,9 +6,9 @@ use mathlib.Core.List.{List, [], _∷_, _++_}
 use Rattle.listing.specs.Count.{count}
 use Rattle.promise.specs.Plan.{Leg}
 use Rattle.words.specs.Told.{Told, accepted, refused, atLine, then}
-use Rattle.words.specs.declared.Signed.{Signed}
 use Rattle.plan_lines.specs.Field.{Field, Got, fieldIn, unsigned, signed}
-use Rattle.plans.specs.Grammar.{Planned, Limits, portsKey, legsKey, startKey, runKey}
+use Rattle.plans.specs.Grammar.{portsKey, legsKey, startKey, runKey}
+use Rattle.plan_rules.specs.Planned.{Planned, Limits, legBy}
 
 -- ---- the four kinds of line
 
@@ -29,10 +29,6 @@ abbrev pub runField : ℕ → ℕ → Field
 runField largest size = signed largest runKey 0 size 10
 
 -- ---- legs and plans
-
--- a leg by its start and its run
-abbrev pub legBy : ℕ → Signed → Leg
-legBy start s = record { start = start; back = s .back; run = s .magnitude }
 
 -- the two lines of a leg among `size` ranks
 unfoldable pub legIn : ℕ → ℕ → ℕ → List ℕ → Told (Got Leg)

@@ -1,10 +1,10 @@
 // Plans read line by line: ports, legs, and for each leg start and run.
-use crate::Plan;
 use crate::ReadPlan;
 use pattern_steps::counts::count_of;
 use plan_lines::LineRead;
 use plan_lines::Values;
 use plan_lines::value_at;
+use plan_rules::Plan;
 use words::Leg;
 use words::Outcome;
 use words::Reason;

@@ -17,7 +17,7 @@ use Rattle.promise.specs.Progress.{work, bringsOn}
 use Rattle.promise.proofs.Steps.{Does, moves-on, hands-out, ends, closes, errs, refuses}
 use Rattle.promise.proofs.Progress.{work-moved, work-marked, work-closing}
 use Rattle.promise.proofs.Refusals.{ran-taken}
-use Rattle.plans.specs.Grammar.{Planned}
+use Rattle.plan_rules.specs.Planned.{Planned}
 use Rattle.plans.specs.Calls.{readPlanOf}
 use Rattle.campaign_state.specs.State.{width, settingOf, momentOf}
 use Rattle.campaign_state.specs.declared.State.{State}

@@ -1,9 +1,9 @@
 -- Nothing else meets the calls' contracts: two answers that say the same are the same.
 -- Assumes nothing.
 use mathlib.Core.Path.{_≡_, refl, sym, ap, _∙_}
-use mathlib.Core.List.{List, _++_}
-use Prim.Native.Nat.{ℕ, _-_}
-use lib.ListN.{length, replicate}
+use mathlib.Core.List.{List}
+use Prim.Native.Nat.{ℕ}
+use lib.ListN.{length}
 use Rattle.listing.specs.Limits.{largest64}
 use Rattle.text_numbers.specs.Decimal.{digitsOf, numberUpTo}
 use Rattle.text_numbers.specs.Signed.{signedUpTo}
@@ -49,5 +49,5 @@ pub only-digits : (n : ℕ) (r s : Text) → TextOf n r → TextOf n s → r ≡
 unfolding text
 only-digits n r s e f =
     let l : r .len ≡ s .len = e .len ∙ sym (f .len) in
-    let b : r .bytes ≡ s .bytes = e .bytes ∙ ap (λ k. digitsOf n ++ replicate (20 - k) 0) l ∙ sym (f .bytes) in
+    let b : r .bytes ≡ s .bytes = e .bytes ∙ sym (f .bytes) in
     ap (λ x. text x (r .len)) b ∙ ap (text (s .bytes)) l

@@ -6,7 +6,8 @@ use Prim.Native.Nat.{ℕ, zero, suc, _+_, _-_, _/_, _%_, _≤_, _<_}
 use native.Mathlib.Omega.{arith}
 use lib.ListN.{length, take, drop, set, replicate}
 use lib.Seq.{append-snoc, drop-cons, getD-set-same, drop-set-lt, lt-length-set, set-split, take-at}
-use Rattle.text_numbers.specs.Decimal.{glyph, digitsOf}
+use Rattle.words.specs.Padded.{padded}
+use Rattle.text_numbers.specs.Decimal.{glyph, digitsOf, mostDigits}
 use Rattle.text_numbers.specs.Answers.{TextOf}
 use Rattle.text_numbers.specs.declared.Text.{Text}
 use Rattle.text_numbers.proofs.Digits.{digits-one, digits-more}
@@ -45,9 +46,9 @@ first-set r bytes at h e l =
     rw (length-one r h, digits-one r h, front) (set-split bytes 0 (glyph r) (omega arith))
 
 -- over an array of zeros they are followed by zeros
-pub over-zeros : (n k : ℕ) → k ≡ length (digitsOf n) → overFront n (replicate 20 0) ≡ digitsOf n ++ replicate (20 - k) 0
-over-zeros n k e = rw (sym e) (ap (λ s. digitsOf n ++ s) (drop-zeros k 20))
+pub over-zeros : (places n : ℕ) → overFront n (replicate places 0) ≡ padded places 0 (digitsOf n)
+over-zeros places n = ap (λ s. digitsOf n ++ s) (drop-zeros (length (digitsOf n)) places)
 
 -- the front of a number's text is its digits
 pub text-front : (n : ℕ) (r : Text) → TextOf n r → take (r .len) (r .bytes) ≡ digitsOf n
-text-front n r h = ap (take (r .len)) (h .bytes) ∙ take-at (digitsOf n) (replicate (20 - r .len) 0) (r .len) (sym (h .len))
+text-front n r h = ap (take (r .len)) (h .bytes) ∙ take-at (digitsOf n) (replicate (mostDigits - length (digitsOf n)) 0) (r .len) (sym (h .len))

@@ -24,6 +24,10 @@ spell (suc k) n = let more = spell k (n / 10) ++ (glyph (n % 10) ∷ []) in cond
 unfoldable pub digitsOf : ℕ → List ℕ
 digitsOf n = spell n n
 
+-- the most digits of a number of 64 bits
+abbrev pub mostDigits : ℕ
+mostDigits = 20
+
 -- ---- what a number's text looks like
 
 -- a byte from `0` to `9`

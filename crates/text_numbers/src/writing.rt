@@ -2,10 +2,9 @@
 use crate::MOST_DIGITS;
 use crate::Text;
 ghost use mathlib.Core.Path.{_≡_};
-ghost use mathlib.Core.List.{_++_};
-ghost use Prim.Native.Nat.{_-_};
-ghost use lib.ListN.{length, replicate};
-ghost use Rattle.text_numbers.specs.Decimal.{digitsOf};
+ghost use lib.ListN.{length};
+ghost use Rattle.words.specs.Padded.{padded};
+ghost use Rattle.text_numbers.specs.Decimal.{digitsOf, mostDigits};
 ghost use Rattle.text_numbers.specs.Answers.{TextOf};
 
 // How many digits n has.
@@ -24,7 +23,7 @@ pub fn places(n: u64) -> usize
 // The digits of n, k of them, at the front of an array of zeros. They are set from the last to the first: place 1 is the last.
 fn spelt(n: u64, k: usize) -> [u8; MOST_DIGITS]
     requires { ⌜ k ≡ length (digitsOf n) ⌝ }
-    ensures { λ r. ⌜ r ≡ digitsOf n ++ replicate (20 - k) 0 ⌝ }
+    ensures { λ r. ⌜ r ≡ padded mostDigits 0 (digitsOf n) ⌝ }
 {
     let mut bytes = [0u8; MOST_DIGITS];
     let mut place: usize = 1;

@@ -2,3 +2,4 @@ pub mod Told
 pub mod Meaning
 pub mod Shape
 pub mod Signs
+pub mod Padded

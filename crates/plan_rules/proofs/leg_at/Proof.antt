@@ -6,8 +6,8 @@ use lib.ListN.{getD}
 use mir.Syntax.{w64}
 use mir.ValLaws.{toZ-ofZ}
 use borrow.Author.Needs.{needs}
-use Rattle.plans.specs.Answers.{legHeld}
-use Rattle.plans.specs.Calls.{device}
+use Rattle.plan_rules.specs.Places.{legHeld}
+use Rattle.plan_rules.specs.Planned.{device}
 use Rattle.plan_rules.proofs.Rules.{few-legs, leg-in-place}
 use Rattle.plan_rules.proofs.leg_at.Statement.{statement}
 use Rattle.plan_rules.proofs.leg_at.Tie as tie

@@ -6,7 +6,7 @@ use lib.ListN.{take}
 use borrow.Author.Needs.{needs}
 use Rattle.listing.specs.Limits.{largest64}
 use Rattle.promise.specs.Plan.{marks}
-use Rattle.plans.specs.Calls.{device}
+use Rattle.plan_rules.specs.Planned.{device}
 use Rattle.plan_rules.specs.Rules.{legsOf}
 use Rattle.plan_rules.proofs.Rules.{few-legs, ruled, legs-many}
 use Rattle.plan_rules.proofs.Marks.{marks-none, marks-more, marks-fit}

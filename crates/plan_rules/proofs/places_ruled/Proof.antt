@@ -7,7 +7,7 @@ use lib.ListN.{length, getD, drop}
 use mir.Syntax.{w64}
 use mir.ValLaws.{toZ-ofZ}
 use borrow.Author.Needs.{needs}
-use Rattle.plans.specs.Answers.{legHeld, legsHeld}
+use Rattle.plan_rules.specs.Places.{legHeld, legsHeld}
 use Rattle.plan_rules.specs.Rules.{placesRuled}
 use Rattle.plan_rules.proofs.Rules.{placeRuled, place-right, place-wrong, places-done}
 use Rattle.plan_rules.proofs.places_ruled.Statement.{statement}

@@ -9,8 +9,9 @@ use borrow.Author.Needs.{needs}
 use Rattle.listing.specs.Limits.{mostLegs, largest64}
 use Rattle.listing.proofs.Limits.{count-most}
 use Rattle.words.specs.Meaning.{refusalOf}
-use Rattle.plans.specs.Grammar.{runOf}
-use Rattle.plans.specs.Places.{legIs, legTold, LegWithin}
+use Rattle.plan_rules.specs.Planned.{runOf}
+use Rattle.plans.specs.Places.{legTold, LegWithin}
+use Rattle.plan_rules.specs.Rules.{legIs}
 use Rattle.plans.specs.Answers.{Answers}
 use Rattle.plans.proofs.Legs.{leg-accepted}
 use Rattle.words.proofs.WithSign.{stored}

@@ -11,7 +11,7 @@ use Rattle.plan_lines.specs.Field.{fieldIn}
 use Rattle.plan_lines.specs.Places.{lineTold, LineWithin}
 use Rattle.plans.specs.Reading.{portsField, legsField}
 use Rattle.plans.specs.Answers.{Answers}
-use Rattle.plans.specs.Calls.{device}
+use Rattle.plan_rules.specs.Planned.{device}
 use Rattle.plan_lines.proofs.Numbers.{number-accepted}
 use Rattle.plans.proofs.Plans.{ports-refused, legs-line-refused, legs-decide}
 use Rattle.plans.proofs.reading.read_plan.Statement.{statement}

@@ -1,6 +1,6 @@
 -- `plans::reading::refused` tells the refusal, and every place is 0.
 use mathlib.Core.Path.{refl}
-use Rattle.plans.specs.Answers.{placed}
+use Rattle.plan_rules.specs.Places.{placed}
 use Rattle.plans.proofs.reading.refused.Statement.{statement}
 use Rattle.plans.proofs.reading.refused.Tie as tie
 

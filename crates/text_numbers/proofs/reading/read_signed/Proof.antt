@@ -1,5 +1,5 @@
 -- `text_numbers::reading::read_signed` gives the signed number that the text is: after `-` the rest is the magnitude, and not 0; else the whole is.
-use mathlib.Core.Path.{sym, ap, _∙_}
+use mathlib.Core.Path.{sym, _∙_}
 use borrow.Author.Needs.{needs}
 use Rattle.listing.specs.Limits.{largest64}
 use Rattle.text_numbers.proofs.Signed.{signed-empty, read-behind, read-ahead}

@@ -1,12 +1,12 @@
 -- `text_numbers::writing::spelt` sets the digits of n from the last to the first. The digits of the rest have still to be set: put over the front of the array
 -- they always make the digits of n and then zeros.
 use mathlib.Core.Path.{_≡_, _∙_}
-use mathlib.Core.List.{_++_}
 use Prim.Native.Nat.{ℕ, _+_, _-_, _≤_}
 use native.Mathlib.Omega.{arith}
-use lib.ListN.{length, replicate, length-replicate}
+use lib.ListN.{length, length-replicate}
 use borrow.Author.Needs.{needs}
-use Rattle.text_numbers.specs.Decimal.{digitsOf}
+use Rattle.words.specs.Padded.{padded}
+use Rattle.text_numbers.specs.Decimal.{digitsOf, mostDigits}
 use Rattle.text_numbers.proofs.Digits.{fewer-tens}
 use Rattle.text_numbers.proofs.Lengths.{length-more, length-some, digits-64}
 use Rattle.text_numbers.proofs.Texts.{overFront, digit-set, first-set, over-zeros}
@@ -17,10 +17,10 @@ use Rattle.text_numbers.proofs.writing.spelt.Tie as tie
 abbrev Inv-loop : tie.InvT-loop
 Inv-loop n k bytes₀ place₀ rest₀ bytes place rest =
     (1 ≤ place)
-    × (k ≤ 20)
+    × (k ≤ mostDigits)
     × (place + length (digitsOf rest) ≡ k + 1)
-    × (length bytes ≡ 20)
-    × (overFront rest bytes ≡ digitsOf n ++ replicate (20 - k) 0)
+    × (length bytes ≡ mostDigits)
+    × (overFront rest bytes ≡ padded mostDigits 0 (digitsOf n))
 
 abbrev μ-loop : tie.MeasureT-loop
 μ-loop n k bytes₀ place₀ rest₀ bytes place rest = rest
@@ -30,8 +30,8 @@ loop-holds c = (
   search needs,
   omega (arith, digits-64 (c .args .n) (search needs)),
   omega arith,
-  length-replicate {A = ℕ} 20 0,
-  over-zeros (c .args .n) (c .args .k) (c .pre),
+  length-replicate {A = ℕ} mostDigits 0,
+  over-zeros mostDigits (c .args .n),
 )
 
 cast-bytes : tie.Need-cast-bytes Inv-loop μ-loop
