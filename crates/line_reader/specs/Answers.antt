@@ -1,6 +1,6 @@
 -- What the reader's answer tells: the paper's number of the refusal, or the line and the place after it. At the end, what its inner pieces answer.
 -- Assumes nothing.
-use Prim.Native.Nat.{ℕ, _≤_}
+use Prim.Native.Nat.{ℕ, zero, suc, _≤_}
 use mathlib.Core.Path.{_≡_}
 use mathlib.Core.List.{List}
 use mathlib.Core.Option.{Option, none, some}
@@ -8,18 +8,23 @@ use lib.ListN.{length, drop}
 use Rattle.words.specs.Told.{Told, accepted, refused, nowhere}
 use Rattle.words.specs.Meaning.{refusalOf}
 use Rattle.words.specs.declared.Line.{Line}
-use Rattle.line_format.specs.Format.{Numbers}
-use Rattle.line_format.specs.Reading.{numberBefore}
+use Rattle.line_format.specs.Format.{Kind, swapping, turning, marking, ending, commas, Numbers, lineOf}
+use Rattle.line_format.specs.Reading.{numberBefore, numbersTold, lineIn}
 use Rattle.line_reader.specs.declared.answers.ReadLine.{ReadLine}
 use Rattle.line_reader.specs.declared.answers.ReadLine.the-variants.{Read, Refused as Read-Refused}
 use Rattle.line_reader.specs.declared.order_lines.Judged.{Judged}
 use Rattle.line_reader.specs.declared.order_lines.Judged.the-variants.{Good, BadKey, BadNumbers, BadShape}
 use Rattle.line_reader.specs.declared.order_lines.First.{First}
 use Rattle.line_reader.specs.declared.order_lines.First.the-variants.{Number, Bad as First-Bad}
-use Rattle.line_reader.specs.declared.order_lines.Two.{Two}
-use Rattle.line_reader.specs.declared.order_lines.Two.the-variants.{Numbers as Two-Numbers, Bad as Two-Bad}
-use Rattle.line_reader.specs.declared.order_lines.Three.{Three}
-use Rattle.line_reader.specs.declared.order_lines.Three.the-variants.{Numbers as Three-Numbers, Bad as Three-Bad}
+use Rattle.line_reader.specs.declared.order_lines.Numbers.{Numbers as Three}
+use Rattle.line_reader.specs.declared.order_lines.Listed.{Listed}
+use Rattle.line_reader.specs.declared.order_lines.Listed.the-variants.{Are, Bad as Listed-Bad}
+use Rattle.line_reader.specs.declared.order_lines.Kind.{Kind as Kind-Read}
+use Rattle.line_reader.specs.declared.order_lines.Kind.the-variants.{Swap, Turn, Mark, End}
+use Rattle.line_reader.specs.declared.order_lines.Keyed.{Keyed}
+use Rattle.line_reader.specs.declared.order_lines.Keyed.the-variants.{Of, Bad as Keyed-Bad}
+use Rattle.text_numbers.specs.declared.Read.{Read as Found}
+use Rattle.text_numbers.specs.declared.Read.the-variants.{Number as Found-Number, Bad as Found-Bad}
 
 -- the call
 abbrev pub readTold : ReadLine → Told (Line × ℕ)
@@ -49,10 +54,50 @@ pub record FirstOf (most : ℕ) (t : List ℕ) (r : First) : Type 0 where
   pub is : firstIs t r ≡ numberBefore most t
   pub within : placeOf r ≤ length t
 
-abbrev pub twoIs : Two → Option (Numbers 1)
-twoIs (Two-Numbers a b) = some (a, b)
-twoIs Two-Bad = none
+-- ---- numbers
 
-abbrev pub threeIs : Three → Option (Numbers 2)
-threeIs (Three-Numbers a b c) = some (a, (b, c))
-threeIs Three-Bad = none
+-- of three numbers the first ones, with k commas between them
+abbrev pub firsts : (k : ℕ) → ℕ → ℕ → ℕ → Numbers k
+firsts zero a b c = a
+firsts (suc k) a b c = (a, firsts k b c 0)
+
+abbrev pub listedIs : (k : ℕ) → Listed → Option (Numbers k)
+listedIs k (Are x) = some (firsts k (x .first) (x .second) (x .third))
+listedIs k Listed-Bad = none
+
+-- one number alone, and a number before others
+abbrev pub aloneOf : Found → Listed
+aloneOf (Found-Number n) = Are (record { first = n; second = 0; third = 0 })
+aloneOf Found-Bad = Listed-Bad
+
+abbrev pub precededBy : ℕ → Listed → Listed
+precededBy n (Are x) = Are (record { first = n; second = x .first; third = x .second })
+precededBy n Listed-Bad = Listed-Bad
+
+-- ---- kinds
+
+-- a kind of the format
+abbrev pub kindIs : Kind-Read → Kind
+kindIs Swap = swapping
+kindIs Turn = turning
+kindIs Mark = marking
+kindIs End = ending
+
+-- the line of a kind that has these numbers
+abbrev pub madeOf : Kind-Read → Three → Line
+madeOf k x = lineOf (kindIs k) (firsts (commas (kindIs k)) (x .first) (x .second) (x .third))
+
+-- what the text after the key tells
+abbrev pub keyedTold : ℕ → ℕ → List ℕ → Keyed → Told Line
+keyedTold most jacks t (Of k at) = numbersTold most jacks (kindIs k) (drop at t)
+keyedTold most jacks t Keyed-Bad = refused 7 nowhere
+
+-- the place after the key, and 0 where there is none
+abbrev pub keyEnd : Keyed → ℕ
+keyEnd (Of k at) = at
+keyEnd Keyed-Bad = 0
+
+-- r is the kind of t: the text after its key decides, and its place is not past the end
+pub record KeyedOf (most jacks : ℕ) (t : List ℕ) (r : Keyed) : Type 0 where
+  pub is : keyedTold most jacks t r ≡ lineIn most jacks t
+  pub within : keyEnd r ≤ length t

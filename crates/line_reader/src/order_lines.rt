@@ -9,18 +9,25 @@ use words::Jack;
 use words::Line;
 use words::Order;
 use words::Reason;
+use words::limits::MOST_PORTS;
 use words::refusals::nowhere;
 use words::shapes::in_shape;
 ghost use mathlib.Core.Path.{_≡_};
+ghost use mathlib.Core.Bool.{_&&_};
+ghost use Prim.Native.Nat.{_≤_};
+ghost use lib.Dec.{leb};
 ghost use lib.ListN.{drop};
 ghost use Rattle.words.specs.Told.{accepted, then};
 ghost use Rattle.words.specs.declared.Line.the-variants.{Movement};
 ghost use Rattle.listing.specs.Limits.{mostPorts, largest64};
 ghost use Rattle.text_keys.specs.Parts.{newline, firstOf};
 ghost use Rattle.text_keys.specs.Answers.{foundIs};
-ghost use Rattle.line_format.specs.Format.{swapping, turning, marking, ending, lineOf};
-ghost use Rattle.line_format.specs.Reading.{numbersIn, fitting, numbersTold, lineIn, readOf};
-ghost use Rattle.line_reader.specs.Answers.{readTold, judgedTold, FirstOf, twoIs, threeIs};
+ghost use Rattle.line_format.specs.Format.{commas};
+ghost use Rattle.line_format.specs.Reading.{numbersIn, fitting, lineIn, readOf};
+ghost use Rattle.line_reader.specs.Answers.{readTold, judgedTold, kindIs, KeyedOf, FirstOf, listedIs, aloneOf, precededBy, madeOf};
+
+// The most jacks of the device, as a number that was read.
+const MOST_JACKS: u64 = MOST_PORTS as u64;
 
 // A line without its newline, or why it is none: its key, its numbers, or its shape.
 pub enum Judged {
@@ -30,21 +37,36 @@ pub enum Judged {
     BadShape,
 }
 
+// The kinds of lines, as `line_format` has them.
+pub enum Kind {
+    Swap,
+    Turn,
+    Mark,
+    End,
+}
+
+// The kind whose key a text begins with, and the place after the key.
+pub enum Keyed {
+    Of(Kind, usize),
+    Bad,
+}
+
 // The number before the first comma of a text, and the place after that comma.
 pub enum First {
     Number(u64, usize),
     Bad,
 }
 
-// Two numbers with a comma between them.
-pub enum Two {
-    Numbers(u64, u64),
-    Bad,
+// As many numbers as a line may have. Those that it does not have are 0.
+pub struct Numbers {
+    pub first: u64,
+    pub second: u64,
+    pub third: u64,
 }
 
-// Three numbers with commas between them.
-pub enum Three {
-    Numbers(u64, u64, u64),
+// The numbers that a text is, or that it is none.
+pub enum Listed {
+    Are(Numbers),
     Bad,
 }
 
@@ -52,7 +74,7 @@ pub enum Three {
 fn first_number(t: &[u8]) -> First
     ensures { λ r. ⌜ FirstOf largest64 (now (t .entry)) r ⌝ }
 {
-    match find(t, 44) {
+    match find(t, b',') {
         Found::Nowhere => First::Bad,
         Found::At(k) => match read_number(&t[..k]) {
             Read::Bad => First::Bad,
@@ -61,128 +83,139 @@ fn first_number(t: &[u8]) -> First
     }
 }
 
-// The two numbers that a text is.
-fn two_numbers(t: &[u8]) -> Two
-    ensures { λ r. ⌜ twoIs r ≡ numbersIn largest64 1 (now (t .entry)) ⌝ }
+// One number alone.
+fn alone(found: Read) -> Listed
+    ensures { λ r. ⌜ r ≡ aloneOf found ⌝ }
 {
-    match first_number(t) {
-        First::Bad => Two::Bad,
-        First::Number(a, at) => match read_number(&t[at..]) {
-            Read::Bad => Two::Bad,
-            Read::Number(b) => Two::Numbers(a, b),
-        },
+    match found {
+        Read::Bad => Listed::Bad,
+        Read::Number(n) => Listed::Are(Numbers {
+            first: n,
+            second: 0,
+            third: 0,
+        }),
     }
 }
 
-// The three numbers that a text is: one, and then two.
-fn three_numbers(t: &[u8]) -> Three
-    ensures { λ r. ⌜ threeIs r ≡ numbersIn largest64 2 (now (t .entry)) ⌝ }
+// A number before others.
+fn preceded(n: u64, rest: Listed) -> Listed
+    ensures { λ r. ⌜ r ≡ precededBy n rest ⌝ }
 {
-    match first_number(t) {
-        First::Bad => Three::Bad,
-        First::Number(a, at) => match two_numbers(&t[at..]) {
-            Two::Bad => Three::Bad,
-            Two::Numbers(b, c) => Three::Numbers(a, b, c),
-        },
+    match rest {
+        Listed::Bad => Listed::Bad,
+        Listed::Are(x) => Listed::Are(Numbers {
+            first: n,
+            second: x.first,
+            third: x.second,
+        }),
     }
 }
 
-// An order that is in shape on 20 jacks.
+// The numbers that a text is, with so many commas between them.
+fn numbers_in(t: &[u8], commas: u8) -> Listed
+    requires { ⌜ commas ≤ 2 ⌝ }
+    ensures { λ r. ⌜ listedIs commas r ≡ numbersIn largest64 commas (now (t .entry)) ⌝ }
+{
+    if commas == 0 {
+        return alone(read_number(t));
+    }
+    match first_number(t) {
+        First::Bad => Listed::Bad,
+        First::Number(n, at) => preceded(n, numbers_in(&t[at..], commas - 1)),
+    }
+}
+
+// An order that is in shape on the most jacks.
 fn fitted(o: Order) -> Judged
     ensures { λ r. ⌜ judgedTold r ≡ fitting mostPorts (Movement o) ⌝ }
 {
-    if in_shape(20, o) {
+    if in_shape(MOST_PORTS, o) {
         return Judged::Good(Line::Movement(o));
     }
     Judged::BadShape
 }
 
-// The swap of two numbers: they are compared with 20 as they are, and then they are jacks.
-fn swap_of(a: u64, b: u64) -> Judged
-    ensures { λ r. ⌜ judgedTold r ≡ fitting mostPorts (lineOf swapping (a, b)) ⌝ }
+// Whether three numbers are jacks of the device, or 0: they are compared as they are.
+fn all_jacks(a: u64, b: u64, c: u64) -> bool
+    ensures { λ r. ⌜ r ≡ (leb a mostPorts && leb b mostPorts && leb c mostPorts) ⌝ }
 {
-    if 20 < a {
-        return Judged::BadShape;
+    if MOST_JACKS < a {
+        return false;
     }
-    if 20 < b {
-        return Judged::BadShape;
+    if MOST_JACKS < b {
+        return false;
     }
-    fitted(Order::Swap(Jack(a as u8), Jack(b as u8)))
+    c <= MOST_JACKS
 }
 
-// The turn of three numbers.
-fn turn_of(a: u64, b: u64, c: u64) -> Judged
-    ensures { λ r. ⌜ judgedTold r ≡ fitting mostPorts (lineOf turning (a, (b, c))) ⌝ }
+// The line of a kind that has these numbers.
+fn line_of(kind: Kind, x: Numbers) -> Judged
+    ensures { λ r. ⌜ judgedTold r ≡ fitting mostPorts (madeOf kind x) ⌝ }
 {
-    if 20 < a {
-        return Judged::BadShape;
-    }
-    if 20 < b {
-        return Judged::BadShape;
-    }
-    if 20 < c {
-        return Judged::BadShape;
-    }
-    fitted(Order::Turn(Jack(a as u8), Jack(b as u8), Jack(c as u8)))
-}
-
-// What follows `swap=`.
-fn swap_in(t: &[u8]) -> Judged
-    ensures { λ r. ⌜ judgedTold r ≡ numbersTold largest64 mostPorts swapping (now (t .entry)) ⌝ }
-{
-    match two_numbers(t) {
-        Two::Bad => Judged::BadNumbers,
-        Two::Numbers(a, b) => swap_of(a, b),
-    }
-}
-
-// What follows `turn=`.
-fn turn_in(t: &[u8]) -> Judged
-    ensures { λ r. ⌜ judgedTold r ≡ numbersTold largest64 mostPorts turning (now (t .entry)) ⌝ }
-{
-    match three_numbers(t) {
-        Three::Bad => Judged::BadNumbers,
-        Three::Numbers(a, b, c) => turn_of(a, b, c),
+    match kind {
+        Kind::Swap => {
+            if all_jacks(x.first, x.second, 0) {
+                return fitted(Order::Swap(Jack(x.first as u8), Jack(x.second as u8)));
+            }
+            Judged::BadShape
+        }
+        Kind::Turn => {
+            if all_jacks(x.first, x.second, x.third) {
+                return fitted(Order::Turn(
+                    Jack(x.first as u8),
+                    Jack(x.second as u8),
+                    Jack(x.third as u8),
+                ));
+            }
+            Judged::BadShape
+        }
+        Kind::Mark => Judged::Good(Line::Mark(x.first, x.second)),
+        Kind::End => Judged::Good(Line::End(x.first)),
     }
 }
 
-// What follows `mark=`.
-fn mark_in(t: &[u8]) -> Judged
-    ensures { λ r. ⌜ judgedTold r ≡ numbersTold largest64 mostPorts marking (now (t .entry)) ⌝ }
+// How many commas stand between the numbers of a kind.
+fn commas_of(kind: Kind) -> u8
+    ensures { λ r. ⌜ r ≡ commas (kindIs kind) ⌝ }
 {
-    match two_numbers(t) {
-        Two::Bad => Judged::BadNumbers,
-        Two::Numbers(number, rank) => Judged::Good(Line::Mark(number, rank)),
+    match kind {
+        Kind::Swap => 1,
+        Kind::Turn => 2,
+        Kind::Mark => 1,
+        Kind::End => 0,
     }
 }
 
-// What follows `end=`.
-fn end_in(t: &[u8]) -> Judged
-    ensures { λ r. ⌜ judgedTold r ≡ numbersTold largest64 mostPorts ending (now (t .entry)) ⌝ }
+// The kind whose key a text begins with: the text after the key decides.
+fn kind_of(t: &[u8]) -> Keyed
+    ensures { λ r. ⌜ KeyedOf largest64 mostPorts (now (t .entry)) r ⌝ }
 {
-    match read_number(t) {
-        Read::Bad => Judged::BadNumbers,
-        Read::Number(marks) => Judged::Good(Line::End(marks)),
+    if has_key(t, b"swap=") {
+        return Keyed::Of(Kind::Swap, 5);
     }
+    if has_key(t, b"turn=") {
+        return Keyed::Of(Kind::Turn, 5);
+    }
+    if has_key(t, b"mark=") {
+        return Keyed::Of(Kind::Mark, 5);
+    }
+    if has_key(t, b"end=") {
+        return Keyed::Of(Kind::End, 4);
+    }
+    Keyed::Bad
 }
 
 // The line that a text without newline is.
 fn line_in(t: &[u8]) -> Judged
     ensures { λ r. ⌜ judgedTold r ≡ lineIn largest64 mostPorts (now (t .entry)) ⌝ }
 {
-    if has_key(t, b"swap=") {
-        return swap_in(&t[5..]);
+    match kind_of(t) {
+        Keyed::Bad => Judged::BadKey,
+        Keyed::Of(kind, at) => match numbers_in(&t[at..], commas_of(kind)) {
+            Listed::Bad => Judged::BadNumbers,
+            Listed::Are(x) => line_of(kind, x),
+        },
     }
-    if has_key(t, b"turn=") {
-        return turn_in(&t[5..]);
-    }
-    if has_key(t, b"mark=") {
-        return mark_in(&t[5..]);
-    }
-    if has_key(t, b"end=") {
-        return end_in(&t[4..]);
-    }
-    Judged::BadKey
 }
 
 // The first newline of a text from a place on: how far after the place.
@@ -192,7 +225,7 @@ fn newline_from(text: &[u8], place: usize) -> Found
     if text.len() < place {
         return Found::Nowhere;
     }
-    find(&text[place..], 10)
+    find(&text[place..], b'\n')
 }
 
 // What is answered: the line and the place after its newline, or the refusal.

@@ -1,119 +1,65 @@
--- `line_reader::order_lines::line_in` tries the four keys. A text that begins with a key is at least as long.
-use mathlib.Core.Path.{_≡_, refl, sym, _∙_}
-use mathlib.Core.Bool.{true, false}
+-- `line_reader::order_lines::line_in` judges the numbers after the key by the kind that the key says.
+use mathlib.Core.Path.{_≡_, sym, ap, _∙_}
+use Prim.Native.Nat.{_≤_}
+use native.Mathlib.Omega.{arith}
+use lib.ListN.{length}
 use borrow.Author.Needs.{needs}
 use Rattle.listing.specs.Limits.{mostPorts, largest64}
-use Rattle.text_keys.specs.Parts.{begins}
-use Rattle.line_format.specs.Format.{swapping, turning, marking, ending, key}
-use Rattle.text_keys.proofs.Keys.{key-room}
-use Rattle.line_reader.proofs.Reader.{line-swap, line-turn, line-mark, line-end, line-none}
+use Rattle.line_format.specs.Reading.{lineIn}
+use Rattle.line_reader.specs.Answers.{keyedTold, keyEnd}
+use Rattle.line_reader.specs.declared.order_lines.Listed.{Listed}
+use Rattle.line_reader.proofs.Reader.{judgedBy, numbers-judged, commas-few}
 use Rattle.line_reader.proofs.order_lines.line_in.Statement.{statement}
 use Rattle.line_reader.proofs.order_lines.line_in.Tie as tie
 
--- the key that is there, and those that are not
-is-swap : (c : tie.Then1) → true ≡ begins (key swapping) (c .before .before .before .before .args .t .now)
-is-swap c = sym (c .if1 .taken) ∙ c .before .has-key .ensures
+-- the numbers begin at a place inside the text
+inside : (c : tie.After-kind) → c .kind .given .0 .1 .0 ≤ length (c .before .before .before .before .args .t .now)
+inside c = let e = ap keyEnd (c .kind .given .1) in omega (arith, c .before .before .kind-of .ensures .within)
 
-no-swap : (c : tie.Else1) → false ≡ begins (key swapping) (c .before .before .before .before .args .t .now)
-no-swap c = sym (c .if1 .left) ∙ c .before .has-key .ensures
+-- what was read of them decides
+decides : (c : tie.After-numbers-in) {r : Listed} → c .numbers-in .result ≡ r
+    → let k = c .before .before .before .before in
+    judgedBy largest64 mostPorts (k .kind .given .0 .0) r ≡ lineIn largest64 mostPorts (k .before .before .before .before .args .t .now)
+decides c e =
+    let k = c .before .before .before .before in
+    let g = k .kind .given in
+    let key = sym (ap (keyedTold largest64 mostPorts _) (g .1)) ∙ k .before .before .kind-of .ensures .is in
+    sym (ap (judgedBy largest64 mostPorts (g .0 .0)) e)
+    ∙ numbers-judged largest64 mostPorts (g .0 .0) _ (g .0 .1 .0) _ (c .numbers-in .result) (c .before .commas-of .ensures) key (c .numbers-in .ensures)
 
-is-turn : (c : tie.Then2) → true ≡ begins (key turning) (c .before .before .before .before .before .before .before .args .t .now)
-is-turn c = sym (c .if2 .taken) ∙ c .before .has-key2 .ensures
+sub-numbers-in : tie.Need-sub-numbers-in
+sub-numbers-in c = inside (c .before)
 
-no-turn : (c : tie.Else2) → false ≡ begins (key turning) (c .before .before .before .before .before .before .before .args .t .now)
-no-turn c = sym (c .if2 .left) ∙ c .before .has-key2 .ensures
+part-numbers-in-start : tie.Need-part-numbers-in-start
+part-numbers-in-start c = let h = inside (c .before) in search needs
 
-is-mark : (c : tie.Then3) → true ≡ begins (key marking) (c .before .before .before .before .before .before .before .before .before .before .args .t .now)
-is-mark c = sym (c .if3 .taken) ∙ c .before .has-key3 .ensures
-
-no-mark : (c : tie.Else3) → false ≡ begins (key marking) (c .before .before .before .before .before .before .before .before .before .before .args .t .now)
-no-mark c = sym (c .if3 .left) ∙ c .before .has-key3 .ensures
-
-is-end : (c : tie.Then4)
-    → true ≡ begins (key ending) (c .before .before .before .before .before .before .before .before .before .before .before .before .before .args .t .now)
-is-end c = sym (c .if4 .taken) ∙ c .before .has-key4 .ensures
-
-sub-swap-in : tie.Need-sub-swap-in
-sub-swap-in c = key-room (key swapping) _ (sym (is-swap c))
-
-part-swap-in-start : tie.Need-part-swap-in-start
-part-swap-in-start c = let h = key-room (key swapping) _ (sym (is-swap c)) in search needs
-
-sub-turn-in : tie.Need-sub-turn-in
-sub-turn-in c = key-room (key turning) _ (sym (is-turn c))
-
-part-turn-in-start : tie.Need-part-turn-in-start
-part-turn-in-start c = let h = key-room (key turning) _ (sym (is-turn c)) in search needs
-
-sub-mark-in : tie.Need-sub-mark-in
-sub-mark-in c = key-room (key marking) _ (sym (is-mark c))
-
-part-mark-in-start : tie.Need-part-mark-in-start
-part-mark-in-start c = let h = key-room (key marking) _ (sym (is-mark c)) in search needs
-
-sub-end-in : tie.Need-sub-end-in
-sub-end-in c = key-room (key ending) _ (sym (is-end c))
-
-part-end-in-start : tie.Need-part-end-in-start
-part-end-in-start c = let h = key-room (key ending) _ (sym (is-end c)) in search needs
+numbers-in-requires : tie.Need-numbers-in-requires
+numbers-in-requires c κs = omega (arith, c .commas-of .ensures, commas-few (c .before .before .before .kind .given .0 .0))
 
 returns : tie.Need-returns
-returns c = line-swap largest64 mostPorts _ _ (is-swap (c .before .before)) (c .swap-in .ensures)
+returns c = sym (ap (keyedTold largest64 mostPorts _) (c .enum-told .given .1)) ∙ c .before .before .kind-of .ensures .is
 
 returns-2 : tie.Need-returns-2
-returns-2 c =
-    let i = c .before .before in
-    line-turn largest64 mostPorts _ _ (no-swap (i .before .before .before)) (is-turn i) (c .turn-in .ensures)
+returns-2 c = decides (c .before .before) (c .enum-told2 .given .1)
 
 returns-3 : tie.Need-returns-3
-returns-3 c =
-    let i = c .before .before in
-    let u = i .before .before .before in
-    line-mark largest64 mostPorts _ _ (no-swap (u .before .before .before)) (no-turn u) (is-mark i) (c .mark-in .ensures)
-
-returns-4 : tie.Need-returns-4
-returns-4 c =
-    let i = c .before .before in
-    let m = i .before .before .before in
-    let u = m .before .before .before in
-    line-end largest64 mostPorts _ _ (no-swap (u .before .before .before)) (no-turn u) (no-mark m) (is-end i) (c .end-in .ensures)
-
-returns-5 : tie.Need-returns-5
-returns-5 c =
-    let m = c .before .before .before in
-    let u = m .before .before .before in
-    line-none largest64 mostPorts _ _ (no-swap (u .before .before .before)) (no-turn u) (no-mark m) (sym (c .if4 .left) ∙ c .before .has-key4 .ensures) refl
+returns-3 c = let x = c .before .before in c .line-of .ensures ∙ decides (x .before .before) (x .x .given .1)
 
 pub line-in-spec : {M : Type 1} → statement M
 line-in-spec =
     tie.close
     (tie.spec
+    (λ c κs. search needs)
+    (λ c. search needs)
+    (λ c. search needs)
+    sub-numbers-in
+    part-numbers-in-start
     (λ c. search needs)
     (λ c κs. search needs)
-    sub-swap-in
-    part-swap-in-start
+    numbers-in-requires
+    (λ c. search needs)
     (λ c. search needs)
     (λ c κs. search needs)
     returns
-    (λ c. search needs)
-    (λ c κs. search needs)
-    sub-turn-in
-    part-turn-in-start
-    (λ c. search needs)
-    (λ c κs. search needs)
     returns-2
-    (λ c. search needs)
-    (λ c κs. search needs)
-    sub-mark-in
-    part-mark-in-start
-    (λ c. search needs)
-    (λ c κs. search needs)
-    returns-3
-    (λ c. search needs)
-    (λ c κs. search needs)
-    sub-end-in
-    part-end-in-start
-    (λ c. search needs)
-    (λ c κs. search needs)
-    returns-4
-    returns-5)
+    returns-3)
