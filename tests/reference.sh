@@ -1,7 +1,7 @@
 # The reference: the plain Rust of tests/reference, written from the paper and document 000, holds to what these print; the proved library, through its
 # calls for C, holds to the reference on many inputs; the examples of a controller's loop print the paper's output.
 reference_out=target/reference
-reference_archive=target/host/libface.a
+reference_archive=target/host/libjidrofex.a
 
 # reference_build LABEL COMMAND..: the command, which compiles something; its messages are shown where it fails
 reference_build() {
@@ -89,7 +89,7 @@ if [ "$reference_tools" = yes ]; then
     # an archive that is older than a file of crates/ would be a test of what was there before
     if [ ! -f "$reference_archive" ] || [ -n "$(find crates -newer "$reference_archive" -type f | head -n 1)" ]; then
         rm -f "$reference_archive"
-        reference_build 'the library for this machine' tools/host-archive face
+        reference_build 'the library for this machine' tools/host-archive
     fi
     if [ -f "$reference_archive" ] &&
         reference_rust 'the reference' --crate-type rlib --crate-name reference -o "$reference_out/libreference.rlib" tests/reference/reference.rs &&

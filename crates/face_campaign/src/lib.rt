@@ -1,4 +1,4 @@
-// A campaign whose state stands in the caller's words.
+// The calls for C on a campaign whose state stands in the words of the caller (include/jidrofex.h).
 use campaign::Answer;
 use campaign::Campaign;
 use face_state::state_in;
@@ -23,7 +23,8 @@ ghost use Rattle.face_campaign.specs.Shown.{shownTold};
 ghost use Rattle.face_laws.specs.Calls.{calledTold, calledWords, requestBytes, ordersTold, ordersWords, ordersBytes, beginTold, beginWords};
 
 // The first state of the plan that the text is.
-pub fn begin_call(text: &[u8], state: &mut [u64], answer: &mut [u64; 5]) -> u8
+#[no_mangle]
+pub extern "C" fn jidrofex_begin(text: &[u8], state: &mut [u64], answer: &mut [u64; 5]) -> u8
     ensures number { λ r. ⌜ r ≡ numberTold (beginTold (now (text .entry)) (now (state .entry))) ⌝ }
     ensures words { λ _. ⌜ now (answer .exit) ≡ wordsTold nothing (beginTold (now (text .entry)) (now (state .entry))) ⌝ }
     ensures left { λ _. ⌜ now (state .exit) ≡ beginWords (now (text .entry)) (now (state .entry)) ⌝ }
@@ -59,7 +60,12 @@ fn line_of(answer: Answer) -> Shown
 }
 
 // The next order, its line at the front of the buffer.
-pub fn request_call(state: &mut [u64], buffer: &mut [u8], answer: &mut [u64; 5]) -> u8
+#[no_mangle]
+pub extern "C" fn jidrofex_request(
+    state: &mut [u64],
+    buffer: &mut [u8],
+    answer: &mut [u64; 5],
+) -> u8
     ensures number { λ r. ⌜ r ≡ numberTold (calledTold (request (length (now (buffer .entry)))) (now (state .entry))) ⌝ }
     ensures words { λ _. ⌜ now (answer .exit) ≡ wordsTold orderAndBytes (calledTold (request (length (now (buffer .entry)))) (now (state .entry))) ⌝ }
     ensures left { λ _. ⌜ now (state .exit) ≡ calledWords (request (length (now (buffer .entry)))) (now (state .entry)) ⌝ }
@@ -85,7 +91,8 @@ pub fn request_call(state: &mut [u64], buffer: &mut [u8], answer: &mut [u64; 5])
 }
 
 // What the bench says of the standing mark.
-pub fn report_call(state: &mut [u64], kind: u8, answer: &mut [u64; 5]) -> u8
+#[no_mangle]
+pub extern "C" fn jidrofex_report(state: &mut [u64], kind: u8, answer: &mut [u64; 5]) -> u8
     ensures number { λ r. ⌜ r ≡ numberTold (calledTold (report kind) (now (state .entry))) ⌝ }
     ensures words { λ _. ⌜ now (answer .exit) ≡ wordsTold nothing (calledTold (report kind) (now (state .entry))) ⌝ }
     ensures left { λ _. ⌜ now (state .exit) ≡ calledWords (report kind) (now (state .entry)) ⌝ }
@@ -110,7 +117,8 @@ pub fn report_call(state: &mut [u64], kind: u8, answer: &mut [u64; 5]) -> u8
 }
 
 // As many whole lines as fit the buffer, every mark taken as run.
-pub fn orders_call(state: &mut [u64], buffer: &mut [u8], answer: &mut [u64; 5]) -> u8
+#[no_mangle]
+pub extern "C" fn jidrofex_orders(state: &mut [u64], buffer: &mut [u8], answer: &mut [u64; 5]) -> u8
     ensures number { λ r. ⌜ r ≡ numberTold (ordersTold (length (now (buffer .entry))) (now (state .entry))) ⌝ }
     ensures words { λ _. ⌜ now (answer .exit) ≡ wordsTold bytesAndEnd (ordersTold (length (now (buffer .entry))) (now (state .entry))) ⌝ }
     ensures left { λ _. ⌜ now (state .exit) ≡ ordersWords (length (now (buffer .entry))) (now (state .entry)) ⌝ }

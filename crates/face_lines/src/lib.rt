@@ -1,4 +1,4 @@
-// Order lines written and read.
+// The calls for C on order lines: written and read (include/jidrofex.h).
 use face_values::answers::give;
 use face_values::answers::refuse;
 use face_values::lines::give_line;
@@ -16,7 +16,12 @@ ghost use Rattle.face_values.specs.Lines.{lineIn};
 ghost use Rattle.face_laws.specs.Values.{oneNumber, lineAndPlace};
 
 // A line written at the front of the buffer.
-pub fn write_line_call(line: &[u64; 4], buffer: &mut [u8], answer: &mut [u64; 5]) -> u8
+#[no_mangle]
+pub extern "C" fn jidrofex_write_line(
+    line: &[u64; 4],
+    buffer: &mut [u8],
+    answer: &mut [u64; 5],
+) -> u8
     ensures number { λ r. ⌜ r ≡ numberTold (writeOf mostPorts (lineIn (now (line .entry))) (now (buffer .entry))) ⌝ }
     ensures words { λ _. ⌜ now (answer .exit) ≡ wordsTold oneNumber (writeOf mostPorts (lineIn (now (line .entry))) (now (buffer .entry))) ⌝ }
     ensures bytes { λ _. ⌜ now (buffer .exit) ≡ writeBytes mostPorts (lineIn (now (line .entry))) (now (buffer .entry)) ⌝ }
@@ -28,7 +33,8 @@ pub fn write_line_call(line: &[u64; 4], buffer: &mut [u8], answer: &mut [u64; 5]
 }
 
 // The line that starts at a place of the text.
-pub fn read_line_call(text: &[u8], place: usize, answer: &mut [u64; 5]) -> u8
+#[no_mangle]
+pub extern "C" fn jidrofex_read_line(text: &[u8], place: usize, answer: &mut [u64; 5]) -> u8
     ensures number { λ r. ⌜ r ≡ numberTold (readOf largest64 mostPorts (now (text .entry)) place) ⌝ }
     ensures words { λ _. ⌜ now (answer .exit) ≡ wordsTold lineAndPlace (readOf largest64 mostPorts (now (text .entry)) place) ⌝ }
 {

@@ -1,4 +1,4 @@
-// Look-ups on a panel, and lines carried out on it.
+// The calls for C on a panel: look-ups, and lines carried out on it (include/jidrofex.h).
 use face_values::answers::give;
 use face_values::answers::refuse;
 use face_values::lines::line_in;
@@ -18,7 +18,8 @@ ghost use Rattle.face_values.specs.Lines.{lineIn};
 ghost use Rattle.face_laws.specs.Values.{nothing, oneNumber};
 
 // The port at a jack.
-pub fn port_at_call(panel: &[u8], jack: u8, answer: &mut [u64; 5]) -> u8
+#[no_mangle]
+pub extern "C" fn jidrofex_port_at(panel: &[u8], jack: u8, answer: &mut [u64; 5]) -> u8
     ensures number { λ r. ⌜ r ≡ numberTold (portOf mostPorts (now (panel .entry)) jack) ⌝ }
     ensures words { λ _. ⌜ now (answer .exit) ≡ wordsTold oneNumber (portOf mostPorts (now (panel .entry)) jack) ⌝ }
 {
@@ -29,7 +30,8 @@ pub fn port_at_call(panel: &[u8], jack: u8, answer: &mut [u64; 5]) -> u8
 }
 
 // The jack that holds a port.
-pub fn jack_of_call(panel: &[u8], port: u8, answer: &mut [u64; 5]) -> u8
+#[no_mangle]
+pub extern "C" fn jidrofex_jack_of(panel: &[u8], port: u8, answer: &mut [u64; 5]) -> u8
     ensures number { λ r. ⌜ r ≡ numberTold (jackOf mostPorts (now (panel .entry)) port) ⌝ }
     ensures words { λ _. ⌜ now (answer .exit) ≡ wordsTold oneNumber (jackOf mostPorts (now (panel .entry)) port) ⌝ }
 {
@@ -40,7 +42,8 @@ pub fn jack_of_call(panel: &[u8], port: u8, answer: &mut [u64; 5]) -> u8
 }
 
 // A line carried out on the panel.
-pub fn carry_call(panel: &mut [u8], line: &[u64; 4], answer: &mut [u64; 5]) -> u8
+#[no_mangle]
+pub extern "C" fn jidrofex_carry(panel: &mut [u8], line: &[u64; 4], answer: &mut [u64; 5]) -> u8
     ensures number { λ r. ⌜ r ≡ numberTold (carryOf mostPorts (lineIn (now (line .entry))) (now (panel .entry))) ⌝ }
     ensures words { λ _. ⌜ now (answer .exit) ≡ wordsTold nothing (carryOf mostPorts (lineIn (now (line .entry))) (now (panel .entry))) ⌝ }
     ensures bytes { λ _. ⌜ now (panel .exit) ≡ carryBytes mostPorts (lineIn (now (line .entry))) (now (panel .entry)) ⌝ }

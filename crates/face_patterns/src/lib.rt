@@ -1,4 +1,4 @@
-// Patterns, and the check of a panel.
+// The calls for C on patterns, and the check of a panel, as include/jidrofex.h has them.
 use face_values::answers::give;
 use face_values::answers::refuse;
 use face_values::lines::give_move;
@@ -23,7 +23,8 @@ ghost use Rattle.face_values.specs.Lines.{moveWords};
 ghost use Rattle.face_laws.specs.Values.{nothing, oneNumber};
 
 // Whether it is a pattern.
-pub fn check_call(pattern: &[u8], answer: &mut [u64; 5]) -> u8
+#[no_mangle]
+pub extern "C" fn jidrofex_check(pattern: &[u8], answer: &mut [u64; 5]) -> u8
     ensures number { λ r. ⌜ r ≡ numberTold (checkAs true mostPorts (now (pattern .entry))) ⌝ }
     ensures words { λ _. ⌜ now (answer .exit) ≡ wordsTold nothing (checkAs true mostPorts (now (pattern .entry))) ⌝ }
 {
@@ -34,7 +35,8 @@ pub fn check_call(pattern: &[u8], answer: &mut [u64; 5]) -> u8
 }
 
 // Whether it is a panel.
-pub fn check_panel_call(panel: &[u8], answer: &mut [u64; 5]) -> u8
+#[no_mangle]
+pub extern "C" fn jidrofex_check_panel(panel: &[u8], answer: &mut [u64; 5]) -> u8
     ensures number { λ r. ⌜ r ≡ numberTold (checkAs false mostPorts (now (panel .entry))) ⌝ }
     ensures words { λ _. ⌜ now (answer .exit) ≡ wordsTold nothing (checkAs false mostPorts (now (panel .entry))) ⌝ }
 {
@@ -45,7 +47,8 @@ pub fn check_panel_call(panel: &[u8], answer: &mut [u64; 5]) -> u8
 }
 
 // How many patterns there are.
-pub fn count_call(ports: u8, answer: &mut [u64; 5]) -> u8
+#[no_mangle]
+pub extern "C" fn jidrofex_count(ports: u8, answer: &mut [u64; 5]) -> u8
     ensures number { λ r. ⌜ r ≡ numberTold (countOf mostPorts ports) ⌝ }
     ensures words { λ _. ⌜ now (answer .exit) ≡ wordsTold oneNumber (countOf mostPorts ports) ⌝ }
 {
@@ -56,7 +59,8 @@ pub fn count_call(ports: u8, answer: &mut [u64; 5]) -> u8
 }
 
 // The rank of a pattern.
-pub fn rank_call(pattern: &[u8], answer: &mut [u64; 5]) -> u8
+#[no_mangle]
+pub extern "C" fn jidrofex_rank(pattern: &[u8], answer: &mut [u64; 5]) -> u8
     ensures number { λ r. ⌜ r ≡ numberTold (rankOf mostPorts (now (pattern .entry))) ⌝ }
     ensures words { λ _. ⌜ now (answer .exit) ≡ wordsTold oneNumber (rankOf mostPorts (now (pattern .entry))) ⌝ }
 {
@@ -67,7 +71,8 @@ pub fn rank_call(pattern: &[u8], answer: &mut [u64; 5]) -> u8
 }
 
 // The pattern of a rank, written over the bytes of `pattern`.
-pub fn unrank_call(rank: u64, pattern: &mut [u8], answer: &mut [u64; 5]) -> u8
+#[no_mangle]
+pub extern "C" fn jidrofex_unrank(rank: u64, pattern: &mut [u8], answer: &mut [u64; 5]) -> u8
     ensures number { λ r. ⌜ r ≡ numberTold (unrankOf mostPorts rank (now (pattern .entry))) ⌝ }
     ensures words { λ _. ⌜ now (answer .exit) ≡ wordsTold nothing (unrankOf mostPorts rank (now (pattern .entry))) ⌝ }
     ensures bytes { λ _. ⌜ now (pattern .exit) ≡ unrankBytes mostPorts rank (now (pattern .entry)) ⌝ }
@@ -79,7 +84,8 @@ pub fn unrank_call(rank: u64, pattern: &mut [u8], answer: &mut [u64; 5]) -> u8
 }
 
 // The pattern becomes the next one round the circuit.
-pub fn next_call(pattern: &mut [u8], answer: &mut [u64; 5]) -> u8
+#[no_mangle]
+pub extern "C" fn jidrofex_next(pattern: &mut [u8], answer: &mut [u64; 5]) -> u8
     ensures number { λ r. ⌜ r ≡ numberTold (besideOf mostPorts false (now (pattern .entry))) ⌝ }
     ensures words { λ _. ⌜ now (answer .exit) ≡ wordsTold moveWords (besideOf mostPorts false (now (pattern .entry))) ⌝ }
     ensures bytes { λ _. ⌜ now (pattern .exit) ≡ besideBytes mostPorts false (now (pattern .entry)) ⌝ }
@@ -91,7 +97,8 @@ pub fn next_call(pattern: &mut [u8], answer: &mut [u64; 5]) -> u8
 }
 
 // The pattern becomes the previous one round the circuit.
-pub fn previous_call(pattern: &mut [u8], answer: &mut [u64; 5]) -> u8
+#[no_mangle]
+pub extern "C" fn jidrofex_previous(pattern: &mut [u8], answer: &mut [u64; 5]) -> u8
     ensures number { λ r. ⌜ r ≡ numberTold (besideOf mostPorts true (now (pattern .entry))) ⌝ }
     ensures words { λ _. ⌜ now (answer .exit) ≡ wordsTold moveWords (besideOf mostPorts true (now (pattern .entry))) ⌝ }
     ensures bytes { λ _. ⌜ now (pattern .exit) ≡ besideBytes mostPorts true (now (pattern .entry)) ⌝ }
@@ -103,7 +110,8 @@ pub fn previous_call(pattern: &mut [u8], answer: &mut [u64; 5]) -> u8
 }
 
 // The rank k further round the circuit.
-pub fn step_call(ports: u8, rank: u64, k: i64, answer: &mut [u64; 5]) -> u8
+#[no_mangle]
+pub extern "C" fn jidrofex_step(ports: u8, rank: u64, k: i64, answer: &mut [u64; 5]) -> u8
     ensures number { λ r. ⌜ r ≡ numberTold (stepOf mostPorts ports rank k) ⌝ }
     ensures words { λ _. ⌜ now (answer .exit) ≡ wordsTold oneNumber (stepOf mostPorts ports rank k) ⌝ }
 {
