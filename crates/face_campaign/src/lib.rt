@@ -3,60 +3,82 @@ use campaign::Answer;
 use campaign::Campaign;
 use face_state::state_in;
 use face_state::state_out;
+use face_values::answers::ANSWER_WORDS;
 use face_values::answers::give;
+use face_values::answers::give_outcome;
 use face_values::answers::refuse;
 use face_values::lines::give_line;
 use printing::Filled;
 use printing::fill;
 use words::Line;
-use words::Outcome;
 use words::Reason;
-use words::Refusal;
 use words::refusals::nowhere;
 ghost use mathlib.Core.Path.{_≡_};
+ghost use mathlib.Core.List.{[], _∷_};
 ghost use lib.ListN.{length};
 ghost use Rattle.promise.specs.Campaign.{request, report};
 ghost use Rattle.campaign.specs.Answers.{answerTold};
-ghost use Rattle.face_values.specs.Answers.{numberTold, wordsTold};
-ghost use Rattle.face_laws.specs.Values.{nothing, orderAndBytes, bytesAndEnd};
-ghost use Rattle.face_campaign.specs.Shown.{shownTold};
+ghost use Rattle.printing.specs.Answers.{filledTold};
+ghost use Rattle.face_values.specs.Answers.{five, numberTold, wordsTold, nothing};
+ghost use Rattle.face_laws.specs.Values.{orderAndBytes, orderThen, bytesAndEnd};
 ghost use Rattle.face_laws.specs.Calls.{calledTold, calledWords, requestBytes, ordersTold, ordersWords, ordersBytes, beginTold, beginWords};
+
+// ---- answers
+
+// Words that are no state: 15, at no place.
+fn unfit(answer: &mut [u64; ANSWER_WORDS]) -> u8
+    ensures number { λ r. ⌜ r ≡ 15 ⌝ }
+    ensures words { λ _. ⌜ now (answer .exit) ≡ five (0 ∷ []) ⌝ }
+{
+    refuse(nowhere(Reason::Unfit), answer)
+}
+
+// An order, and how many bytes its line takes.
+fn give_order(order: Answer, bytes: u64, answer: &mut [u64; ANSWER_WORDS]) -> u8
+    ensures number { λ r. ⌜ r ≡ numberTold (answerTold order) ⌝ }
+    ensures words { λ _. ⌜ now (answer .exit) ≡ wordsTold (orderThen bytes) (answerTold order) ⌝ }
+{
+    match order {
+        Answer::Movement(o) => give_line(Line::Movement(o), bytes, answer),
+        Answer::Mark(number, rank) => give_line(Line::Mark(number, rank), bytes, answer),
+        Answer::End(marks) => give_line(Line::End(marks), bytes, answer),
+        Answer::Refused(f) => refuse(f, answer),
+    }
+}
+
+// How many bytes were printed, and whether the end is among them.
+fn give_filled(filled: Filled, answer: &mut [u64; ANSWER_WORDS]) -> u8
+    ensures number { λ r. ⌜ r ≡ numberTold (filledTold filled) ⌝ }
+    ensures words { λ _. ⌜ now (answer .exit) ≡ wordsTold bytesAndEnd (filledTold filled) ⌝ }
+{
+    match filled {
+        Filled::Lines(n) => give(answer, n as u64, 0, 0, 0, 0),
+        Filled::Ended(n) => give(answer, n as u64, 1, 0, 0, 0),
+        Filled::Refused(f) => refuse(f, answer),
+    }
+}
+
+// ---- the calls
 
 // The first state of the plan that the text is.
 #[no_mangle]
-pub extern "C" fn jidrofex_begin(text: &[u8], state: &mut [u64], answer: &mut [u64; 5]) -> u8
+pub extern "C" fn jidrofex_begin(
+    text: &[u8],
+    state: &mut [u64],
+    answer: &mut [u64; ANSWER_WORDS],
+) -> u8
     ensures number { λ r. ⌜ r ≡ numberTold (beginTold (now (text .entry)) (now (state .entry))) ⌝ }
     ensures words { λ _. ⌜ now (answer .exit) ≡ wordsTold nothing (beginTold (now (text .entry)) (now (state .entry))) ⌝ }
     ensures left { λ _. ⌜ now (state .exit) ≡ beginWords (now (text .entry)) (now (state .entry)) ⌝ }
 {
     if state.len() != 61 {
-        return refuse(nowhere(Reason::Unfit), answer);
+        return unfit(answer);
     }
     let begun = Campaign::begin(text);
     let campaign = begun.campaign;
     state_out(campaign.state, state);
     let judged = begun.judged;
-    match judged {
-        Outcome::Refused(f) => refuse(f, answer),
-        Outcome::Accepted => give(answer, 0, 0, 0, 0, 0),
-    }
-}
-
-// The line of a request's answer, or its refusal.
-pub enum Shown {
-    Order(Line),
-    Refused(Refusal),
-}
-
-fn line_of(answer: Answer) -> Shown
-    ensures { λ r. ⌜ shownTold r ≡ answerTold answer ⌝ }
-{
-    match answer {
-        Answer::Movement(o) => Shown::Order(Line::Movement(o)),
-        Answer::Mark(number, rank) => Shown::Order(Line::Mark(number, rank)),
-        Answer::End(marks) => Shown::Order(Line::End(marks)),
-        Answer::Refused(f) => Shown::Refused(f),
-    }
+    give_outcome(judged, answer)
 }
 
 // The next order, its line at the front of the buffer.
@@ -64,7 +86,7 @@ fn line_of(answer: Answer) -> Shown
 pub extern "C" fn jidrofex_request(
     state: &mut [u64],
     buffer: &mut [u8],
-    answer: &mut [u64; 5],
+    answer: &mut [u64; ANSWER_WORDS],
 ) -> u8
     ensures number { λ r. ⌜ r ≡ numberTold (calledTold (request (length (now (buffer .entry)))) (now (state .entry))) ⌝ }
     ensures words { λ _. ⌜ now (answer .exit) ≡ wordsTold orderAndBytes (calledTold (request (length (now (buffer .entry)))) (now (state .entry))) ⌝ }
@@ -77,22 +99,20 @@ pub extern "C" fn jidrofex_request(
         let campaign = Campaign { state: s };
         let r = campaign.request(buffer);
         let left = r.campaign;
+        state_out(left.state, state);
         let order = r.answer;
-        match line_of(order) {
-            Shown::Refused(f) => refuse(f, answer),
-            Shown::Order(line) => {
-                state_out(left.state, state);
-                give_line(line, r.written as u64, answer)
-            }
-        }
-    } else {
-        refuse(nowhere(Reason::Unfit), answer)
+        return give_order(order, r.written as u64, answer);
     }
+    unfit(answer)
 }
 
 // What the bench says of the standing mark.
 #[no_mangle]
-pub extern "C" fn jidrofex_report(state: &mut [u64], kind: u8, answer: &mut [u64; 5]) -> u8
+pub extern "C" fn jidrofex_report(
+    state: &mut [u64],
+    kind: u8,
+    answer: &mut [u64; ANSWER_WORDS],
+) -> u8
     ensures number { λ r. ⌜ r ≡ numberTold (calledTold (report kind) (now (state .entry))) ⌝ }
     ensures words { λ _. ⌜ now (answer .exit) ≡ wordsTold nothing (calledTold (report kind) (now (state .entry))) ⌝ }
     ensures left { λ _. ⌜ now (state .exit) ≡ calledWords (report kind) (now (state .entry)) ⌝ }
@@ -103,22 +123,20 @@ pub extern "C" fn jidrofex_report(state: &mut [u64], kind: u8, answer: &mut [u64
         let campaign = Campaign { state: s };
         let r = campaign.report(kind);
         let left = r.campaign;
-        let heard = r.answer;
-        match heard {
-            Outcome::Refused(f) => refuse(f, answer),
-            Outcome::Accepted => {
-                state_out(left.state, state);
-                give(answer, 0, 0, 0, 0, 0)
-            }
-        }
-    } else {
-        refuse(nowhere(Reason::Unfit), answer)
+        state_out(left.state, state);
+        let outcome = r.answer;
+        return give_outcome(outcome, answer);
     }
+    unfit(answer)
 }
 
 // As many whole lines as fit the buffer, every mark taken as run.
 #[no_mangle]
-pub extern "C" fn jidrofex_orders(state: &mut [u64], buffer: &mut [u8], answer: &mut [u64; 5]) -> u8
+pub extern "C" fn jidrofex_orders(
+    state: &mut [u64],
+    buffer: &mut [u8],
+    answer: &mut [u64; ANSWER_WORDS],
+) -> u8
     ensures number { λ r. ⌜ r ≡ numberTold (ordersTold (length (now (buffer .entry))) (now (state .entry))) ⌝ }
     ensures words { λ _. ⌜ now (answer .exit) ≡ wordsTold bytesAndEnd (ordersTold (length (now (buffer .entry))) (now (state .entry))) ⌝ }
     ensures left { λ _. ⌜ now (state .exit) ≡ ordersWords (length (now (buffer .entry))) (now (state .entry)) ⌝ }
@@ -130,19 +148,9 @@ pub extern "C" fn jidrofex_orders(state: &mut [u64], buffer: &mut [u8], answer: 
         let campaign = Campaign { state: s };
         let printed = fill(campaign, buffer);
         let left = printed.campaign;
+        state_out(left.state, state);
         let filled = printed.filled;
-        match filled {
-            Filled::Refused(f) => refuse(f, answer),
-            Filled::Lines(n) => {
-                state_out(left.state, state);
-                give(answer, n as u64, 0, 0, 0, 0)
-            }
-            Filled::Ended(n) => {
-                state_out(left.state, state);
-                give(answer, n as u64, 1, 0, 0, 0)
-            }
-        }
-    } else {
-        refuse(nowhere(Reason::Unfit), answer)
+        return give_filled(filled, answer);
     }
+    unfit(answer)
 }

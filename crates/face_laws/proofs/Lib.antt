@@ -1,3 +1,3 @@
-pub mod Tells
 pub mod OnState
+pub mod Stays
 pub mod Only

@@ -14,9 +14,9 @@ use Rattle.patterns.specs.Calls.{countOf, rankOf, unrankOf, unrankBytes, beside
 use Rattle.panel.specs.Calls.{portOf, jackOf, carryOf, carryBytes}
 use Rattle.line_format.specs.Calls.{writeOf, writeBytes}
 use Rattle.line_format.specs.Reading.{readOf}
-use Rattle.face_values.specs.Answers.{numberTold, wordsTold}
+use Rattle.face_values.specs.Answers.{numberTold, wordsTold, nothing, oneNumber}
 use Rattle.face_values.specs.Lines.{moveWords, lineIn}
-use Rattle.face_laws.specs.Values.{nothing, oneNumber, lineAndPlace, orderAndBytes, bytesAndEnd}
+use Rattle.face_laws.specs.Values.{lineAndPlace, orderAndBytes, bytesAndEnd}
 use Rattle.face_laws.specs.Calls.{calledTold, calledWords, requestBytes, ordersTold, ordersWords, ordersBytes, beginTold, beginWords}
 
 -- what a call answers and leaves: its number, the words of the answer, and the contents of each lent slice that it may change

@@ -12,14 +12,6 @@ use Rattle.campaign_state.specs.State.{answerLine}
 use Rattle.face_values.specs.Lines.{lineWords}
 use Rattle.face_state.specs.States.{bit}
 
--- 'Gives nothing'
-abbrev pub nothing : {A : Type 0} → A → List ℕ
-nothing a = []
-
--- 'Gives the count', the rank, the port, the jack, how many bytes: one number
-abbrev pub oneNumber : ℕ → List ℕ
-oneNumber k = k ∷ []
-
 -- 'Gives the line's four words and the place after its newline'
 abbrev pub lineAndPlace : Line × ℕ → List ℕ
 lineAndPlace (l, place) = lineWords l ++ (place ∷ [])
@@ -32,6 +24,14 @@ writtenLine (some l) = lineWords l ++ (length (lineText l) ∷ [])
 -- 'Gives the line's four words and how many bytes it takes', of the answer to a request
 abbrev pub orderAndBytes : model.Answer → List ℕ
 orderAndBytes a = writtenLine (answerLine a)
+
+-- the same with any number after the four words
+abbrev pub lineThen : ℕ → Option Line → List ℕ
+lineThen n none = []
+lineThen n (some l) = lineWords l ++ (n ∷ [])
+
+abbrev pub orderThen : ℕ → model.Answer → List ℕ
+orderThen n a = lineThen n (answerLine a)
 
 -- 'Gives how many bytes they take, and 1 if the end is among them'
 abbrev pub bytesAndEnd : ℕ × Bool → List ℕ

@@ -1,40 +1,56 @@
 // The calls for C on order lines: written and read (include/jidrofex.h).
-use face_values::answers::give;
+use face_values::answers::ANSWER_WORDS;
+use face_values::answers::give_numbered;
 use face_values::answers::refuse;
+use face_values::lines::LINE_WORDS;
 use face_values::lines::give_line;
 use face_values::lines::line_in;
 use line_reader::answers::ReadLine;
 use line_reader::order_lines::read_line;
 use line_writer::answers::Written;
 use line_writer::order_lines::write_line;
+use words::Numbered;
 ghost use mathlib.Core.Path.{_≡_};
 ghost use Rattle.listing.specs.Limits.{mostPorts, largest64};
+ghost use Rattle.words.specs.Meaning.{numberedTold};
 ghost use Rattle.line_format.specs.Calls.{writeOf, writeBytes};
 ghost use Rattle.line_format.specs.Reading.{readOf};
-ghost use Rattle.face_values.specs.Answers.{numberTold, wordsTold};
+ghost use Rattle.line_writer.specs.Answers.{writtenTold};
+ghost use Rattle.face_values.specs.Answers.{numberTold, wordsTold, oneNumber};
 ghost use Rattle.face_values.specs.Lines.{lineIn};
-ghost use Rattle.face_laws.specs.Values.{oneNumber, lineAndPlace};
+ghost use Rattle.face_laws.specs.Values.{lineAndPlace};
+
+// How many bytes were written.
+fn bytes_number(written: Written) -> Numbered
+    ensures { λ r. ⌜ numberedTold r ≡ writtenTold written ⌝ }
+{
+    match written {
+        Written::Refused(f) => Numbered::Refused(f),
+        Written::Bytes(n) => Numbered::Is(n as u64),
+    }
+}
 
 // A line written at the front of the buffer.
 #[no_mangle]
 pub extern "C" fn jidrofex_write_line(
-    line: &[u64; 4],
+    line: &[u64; LINE_WORDS],
     buffer: &mut [u8],
-    answer: &mut [u64; 5],
+    answer: &mut [u64; ANSWER_WORDS],
 ) -> u8
     ensures number { λ r. ⌜ r ≡ numberTold (writeOf mostPorts (lineIn (now (line .entry))) (now (buffer .entry))) ⌝ }
     ensures words { λ _. ⌜ now (answer .exit) ≡ wordsTold oneNumber (writeOf mostPorts (lineIn (now (line .entry))) (now (buffer .entry))) ⌝ }
     ensures bytes { λ _. ⌜ now (buffer .exit) ≡ writeBytes mostPorts (lineIn (now (line .entry))) (now (buffer .entry)) ⌝ }
 {
-    match write_line(line_in(line), buffer) {
-        Written::Refused(f) => refuse(f, answer),
-        Written::Bytes(n) => give(answer, n as u64, 0, 0, 0, 0),
-    }
+    give_numbered(bytes_number(write_line(line_in(line), buffer)), answer)
 }
 
 // The line that starts at a place of the text.
 #[no_mangle]
-pub extern "C" fn jidrofex_read_line(text: &[u8], place: usize, answer: &mut [u64; 5]) -> u8
+pub extern "C" fn jidrofex_read_line(
+    text: &[u8],
+    place: usize,
+    answer: &mut [u64; ANSWER_WORDS],
+) -> u8
     ensures number { λ r. ⌜ r ≡ numberTold (readOf largest64 mostPorts (now (text .entry)) place) ⌝ }
     ensures words { λ _. ⌜ now (answer .exit) ≡ wordsTold lineAndPlace (readOf largest64 mostPorts (now (text .entry)) place) ⌝ }
 {

@@ -1,1 +1,2 @@
 pub mod LineWords
+pub mod Tells

@@ -18,3 +18,13 @@ five l = padded 5 0 l
 abbrev pub wordsTold : {A : Type 0} → (A → List ℕ) → Told A → List ℕ
 wordsTold values (accepted a) = five (values a)
 wordsTold values (refused k s) = five (spotNumber s ∷ [])
+
+-- ---- the values that an accepted call gives
+
+-- 'Gives nothing'
+abbrev pub nothing : {A : Type 0} → A → List ℕ
+nothing a = []
+
+-- 'Gives the count', the rank, the port, the jack, how many bytes: one number
+abbrev pub oneNumber : ℕ → List ℕ
+oneNumber k = k ∷ []

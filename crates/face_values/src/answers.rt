@@ -1,15 +1,20 @@
-// The number and the five words that a call answers.
+// The number and the words that a call answers.
+use words::Numbered;
+use words::Outcome;
 use words::Refusal;
 use words::refusals::place_number;
 use words::refusals::reason_number;
 ghost use mathlib.Core.Path.{_≡_};
 ghost use mathlib.Core.List.{[], _∷_};
 ghost use Rattle.words.specs.Told.{spotNumber};
-ghost use Rattle.words.specs.Meaning.{numberOf, spotOf};
-ghost use Rattle.face_values.specs.Answers.{five};
+ghost use Rattle.words.specs.Meaning.{numberOf, spotOf, outcomeTold, numberedTold};
+ghost use Rattle.face_values.specs.Answers.{five, numberTold, wordsTold, nothing, oneNumber};
 
-// The five words of an accepted call, whose number is 0.
-pub fn give(answer: &mut [u64; 5], a: u64, b: u64, c: u64, d: u64, e: u64) -> u8
+// JIDROFEX_ANSWER_WORDS
+pub const ANSWER_WORDS: usize = 5;
+
+// The words of an accepted call, whose number is 0.
+pub fn give(answer: &mut [u64; ANSWER_WORDS], a: u64, b: u64, c: u64, d: u64, e: u64) -> u8
     ensures number { λ r. ⌜ r ≡ 0 ⌝ }
     ensures words { λ _. ⌜ now (answer .exit) ≡ a ∷ b ∷ c ∷ d ∷ e ∷ [] ⌝ }
 {
@@ -18,7 +23,7 @@ pub fn give(answer: &mut [u64; 5], a: u64, b: u64, c: u64, d: u64, e: u64) -> u8
 }
 
 // A refused call: its place in the answer, and its number.
-pub fn refuse(f: Refusal, answer: &mut [u64; 5]) -> u8
+pub fn refuse(f: Refusal, answer: &mut [u64; ANSWER_WORDS]) -> u8
     ensures number { λ r. ⌜ r ≡ numberOf (f .reason) ⌝ }
     ensures words { λ _. ⌜ now (answer .exit) ≡ five (spotNumber (spotOf (f .place)) ∷ []) ⌝ }
 {
@@ -26,4 +31,26 @@ pub fn refuse(f: Refusal, answer: &mut [u64; 5]) -> u8
     let reason = f.reason;
     give(answer, place_number(place) as u64, 0, 0, 0, 0);
     reason_number(reason)
+}
+
+// The answer of a call that gives nothing.
+pub fn give_outcome(outcome: Outcome, answer: &mut [u64; ANSWER_WORDS]) -> u8
+    ensures number { λ r. ⌜ r ≡ numberTold (outcomeTold outcome) ⌝ }
+    ensures words { λ _. ⌜ now (answer .exit) ≡ wordsTold nothing (outcomeTold outcome) ⌝ }
+{
+    match outcome {
+        Outcome::Refused(f) => refuse(f, answer),
+        Outcome::Accepted => give(answer, 0, 0, 0, 0, 0),
+    }
+}
+
+// The answer of a call that gives one number.
+pub fn give_numbered(numbered: Numbered, answer: &mut [u64; ANSWER_WORDS]) -> u8
+    ensures number { λ r. ⌜ r ≡ numberTold (numberedTold numbered) ⌝ }
+    ensures words { λ _. ⌜ now (answer .exit) ≡ wordsTold oneNumber (numberedTold numbered) ⌝ }
+{
+    match numbered {
+        Numbered::Refused(f) => refuse(f, answer),
+        Numbered::Is(k) => give(answer, k, 0, 0, 0, 0),
+    }
 }
