@@ -3,7 +3,7 @@ use crate::Begun;
 use crate::Campaign;
 use campaign_state::State;
 use pattern_carry::panels::home_panel;
-use plans::Plan;
+use plan_rules::Plan;
 use plans::reading::read_plan;
 ghost use mathlib.Core.Path.{_≡_};
 ghost use Prim.Native.Nat.{_≤_};

@@ -19,18 +19,18 @@ use Rattle.promise.specs.Derangements.{derangements, onPorts}
 use Rattle.promise.proofs.Circuit.{circuit-accepts}
 use Rattle.promise.proofs.Derangements.{lawful-on, circuit-on}
 use Rattle.words.specs.Signs.{withSign}
-use Rattle.plans.specs.Grammar.{Planned, runOf, Fits}
-use Rattle.plans.specs.Answers.{placed, heldOf, plannedOf}
-use Rattle.plans.specs.Calls.{device}
-use Rattle.plans.specs.declared.Plan.{Plan}
-use Rattle.plans.proofs.Plans.{accepted-fits, each-fits}
-use Rattle.plans.proofs.Runs.{held-planned, held-places}
+use Rattle.plan_rules.specs.Places.{placed}
+use Rattle.plan_rules.specs.declared.Plan.{Plan}
+use Rattle.plans.proofs.Plans.{accepted-fits}
 use Rattle.plan_rules.specs.Rules.{planRuled}
 use Rattle.plan_rules.proofs.Rules.{tells-ruled}
 use Rattle.campaign_state.specs.State.{width, settingOf, momentOf}
 use Rattle.campaign_state.specs.Fitness.{emptyFrom, placesFit}
 use Rattle.campaign_state.proofs.Places.{tells-empty}
 use Rattle.campaign.specs.Calls.{firstState}
+use Rattle.plan_rules.specs.Planned.{Planned, runOf, Fits, device}
+use Rattle.plan_rules.specs.Places.{heldOf, plannedOf}
+use Rattle.plan_rules.proofs.Held.{each-fits, held-planned, held-places}
 use Rattle.campaign_reached.specs.Turns.{AcceptedPlan, campaignOf, begun}
 use Rattle.campaign_reached.proofs.Kept.{Kept}
 

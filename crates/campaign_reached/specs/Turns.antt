@@ -8,11 +8,11 @@ use Rattle.words.specs.Told.{accepted}
 use Rattle.promise.specs.Campaign.{Setting, Call, request, report}
 use Rattle.promise.specs.Bench.{Turn}
 use Rattle.promise.specs.Derangements.{onPorts}
-use Rattle.plans.specs.Grammar.{Planned}
 use Rattle.plans.specs.Calls.{readPlanOf}
 use Rattle.campaign_state.specs.State.{width, momentOf}
 use Rattle.campaign_state.specs.declared.State.{State}
 use Rattle.campaign.specs.Calls.{answerOf, leftOf, begunOf}
+use Rattle.plan_rules.specs.Planned.{Planned}
 
 -- 'any accepted plan': a text, and the plan that it was accepted as
 pub record AcceptedPlan : Type 0 where

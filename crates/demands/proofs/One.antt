@@ -26,7 +26,6 @@ use Rattle.line_format.specs.Format.{Kind, swapping, turning, marking, ending, 
 use Rattle.line_format.specs.Calls.{roomOf, writeOf, writeBytes}
 use Rattle.words.specs.Shape.{lineFits}
 use Rattle.line_format.specs.Reading.{fitting, numbersIn, numbersTold, keyed, lineIn, readOf}
-use Rattle.plans.specs.Calls.{device}
 use Rattle.promise.specs.Campaign.{Setting, refusal, Call, request, report, reportOf, isError, todo, next, offer, answer}
 use Rattle.promise.specs.Campaign as model
 use Rattle.campaign_state.specs.State.{settingOf, momentOf}
@@ -36,6 +35,7 @@ use Rattle.campaign.specs.Calls as calls
 use Rattle.campaign.specs.Calls.{answerOf, leftOf, bytesOf}
 use Rattle.campaign.proofs.Moments.{refusal-leaves}
 use Rattle.campaign.proofs.Tells.{bytes-stay}
+use Rattle.plan_rules.specs.Planned.{device}
 use Rattle.demands.specs.One.{OneOf, Refuses, RefusesAs, DemandOne}
 use Rattle.demands.proofs.PlanNumbers.{plan-numbers}
 use Rattle.demands.proofs.Numbers.{from-accepted, from-refused, from-then, from-need, from-cond, from-sized, answer-cond, answer-refusal, kept}

@@ -15,11 +15,11 @@ use Rattle.promise.specs.Demand.{Demanded, Demand, FullCircuit}
 use Rattle.promise.specs.Derangements.{derangements}
 use Rattle.promise.proofs.Promise.{promise}
 use Rattle.promise.proofs.Circuit.{full-circuit}
-use Rattle.plans.specs.Grammar.{Planned}
 use Rattle.campaign_state.specs.State.{momentOf}
 use Rattle.campaign_reached.specs.Turns.{AcceptedPlan, campaignOf, begun, Called, callOf, turnsOf, leftAfter}
 use Rattle.campaign_reached.proofs.Begun.{lawful, circuit, starts-listed, accepts, begun-kept, begun-setting, begun-moment}
 use Rattle.campaign_reached.proofs.Kept.{Left, turns-model, left-so}
+use Rattle.plan_rules.specs.Planned.{Planned}
 
 module _ (P : AcceptedPlan) where
   abbrev p : Planned
