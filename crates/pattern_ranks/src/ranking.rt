@@ -1,6 +1,7 @@
 // The place of a pattern in the list and in the reversed list, level by level.
 use crate::types::Came;
 use crate::types::Level;
+use pattern_carry::panels::load;
 use pattern_carry::panels::port_at;
 use pattern_steps::counts::block_size;
 use pattern_steps::counts::count_of;
@@ -12,7 +13,7 @@ use words::limits::LONGEST;
 ghost use mathlib.Core.Path.{_≡_};
 ghost use mathlib.Core.Bool.{cond};
 ghost use Prim.Native.Nat.{suc, _-_, _≤_};
-ghost use lib.ListN.{take};
+ghost use lib.ListN.{length, take};
 ghost use Rattle.listing.specs.Numbers.{Among, before};
 ghost use Rattle.listing.specs.Pattern.{entry, Derangement};
 ghost use Rattle.listing.specs.Count.{count};
@@ -141,4 +142,12 @@ pub fn place_back(p: [u8; LONGEST], n: u8) -> u64
         return l.passed + place(t, l.ports);
     }
     l.passed + place_back(t, l.ports)
+}
+
+// The rank of a lent pattern.
+pub fn rank_of(p: &[u8]) -> u64
+    requires { ⌜ (length (now p) ≤ mostPorts) × Derangement (length (now p)) (now p) ⌝ }
+    ensures { λ r. ⌜ r ≡ rank (length (now (p .entry))) (now (p .entry)) ⌝ }
+{
+    place(load(p), p.len() as u8)
 }

@@ -1,10 +1,9 @@
 // Next and previous round the circuit: the lent pattern becomes the one beside it, and the answer is the move that was made.
 use crate::answers::Moved;
 use pattern_carry::carry_move;
-use pattern_carry::panels::load;
 use pattern_check::checking::check;
 use pattern_moves::neighbours::move_beside;
-use pattern_ranks::ranking::place;
+use pattern_ranks::ranking::rank_of;
 use words::Outcome;
 ghost use mathlib.Core.Path.{_≡_};
 ghost use mathlib.Core.Bool.{true, false};
@@ -21,7 +20,7 @@ fn go(p: &mut [u8], back: bool) -> Moved
         Outcome::Refused(f) => Moved::Refused(f),
         Outcome::Accepted => {
             let n = p.len() as u8;
-            let m = move_beside(n, back, place(load(p), n));
+            let m = move_beside(n, back, rank_of(p));
             carry_move(m, p);
             Moved::By(m)
         }

@@ -1,9 +1,8 @@
 // Rank from pattern and pattern from rank.
-use pattern_carry::panels::load;
 use pattern_carry::panels::store;
 use pattern_check::checking::check;
 use pattern_check::checking::in_size;
-use pattern_ranks::ranking::place;
+use pattern_ranks::ranking::rank_of;
 use pattern_ranks::unranking::pattern_of;
 use pattern_steps::counts::count_of;
 use words::Numbered;
@@ -21,7 +20,7 @@ pub fn rank(p: &[u8]) -> Numbered
 {
     match check(p) {
         Outcome::Refused(f) => Numbered::Refused(f),
-        Outcome::Accepted => Numbered::Is(place(load(p), p.len() as u8)),
+        Outcome::Accepted => Numbered::Is(rank_of(p)),
     }
 }
 

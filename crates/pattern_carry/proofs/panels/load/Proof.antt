@@ -5,12 +5,13 @@ use Prim.Native.Nat.{_≤_, _-_}
 use native.Mathlib.Omega.{arith}
 use borrow.Author.Needs.{needs}
 use lib.ListN.{length, take}
+use Rattle.listing.specs.Limits.{mostPorts}
 use Rattle.pattern_carry.proofs.Filling.{copy-stored, copy-front}
 use Rattle.pattern_carry.proofs.panels.load.Statement.{statement}
 use Rattle.pattern_carry.proofs.panels.load.Tie as tie
 
 abbrev Inv-loop : tie.InvT-loop
-Inv-loop p t₀ j₀ t j = (j ≤ length p) × (length t ≡ 20) × (take j t ≡ take j p)
+Inv-loop p t₀ j₀ t j = (j ≤ length p) × (length t ≡ mostPorts) × (take j t ≡ take j p)
 
 abbrev μ-loop : tie.MeasureT-loop
 μ-loop p t₀ j₀ t j = length p - j

@@ -23,36 +23,26 @@ sound c = ap outcomeTold (sym (c .enum-told .given .1)) ∙ c .before .before .c
 cast-n : tie.Need-cast-n
 cast-n c = omega (arith, accepted-pattern mostPorts _ (sound c) .high)
 
-load-requires : tie.Need-load-requires
-load-requires c κs = accepted-pattern mostPorts _ (sound (c .before)) .high
-
-place-requires : tie.Need-place-requires
-place-requires c κs =
-    let whole = accepted-pattern mostPorts _ (sound (c .before .before)) in
-    (whole .high, rw (c .load .ensures) (whole .is))
-
--- the place that was found is the rank
-ranked : (c : tie.After-place)
-    → let p = c .before .before .before .before .before .before .before .before .args .p .now in c .place .result ≡ rank (length p) p
-ranked c = c .place .ensures ∙ ap (rank _) (c .before .load .ensures)
+rank-of-requires : tie.Need-rank-of-requires
+rank-of-requires c κs = let whole = accepted-pattern mostPorts _ (sound (c .before)) in (whole .high, whole .is)
 
 move-beside-requires : tie.Need-move-beside-requires
 move-beside-requires c κs =
-    let e = sound (c .before .before .before) in
+    let e = sound (c .before .before) in
     let whole = accepted-pattern mostPorts _ e in
-    (whole .low, whole .high, rw (ranked c) (rank-fits mostPorts _ e))
+    (whole .low, whole .high, rw (c .rank-of .ensures) (rank-fits mostPorts _ e))
 
 -- the move that was found is the one beside the rank
 move-is : (c : tie.After-move-beside)
-    → let a = c .before .before .before .before .before .before .before .before .before .args in
+    → let a = c .before .before .before .before .before .before .before .before .args in
     moveOf (c .move-beside .result) ≡ moveBeside (length (a .p .now)) (a .back) (rank (length (a .p .now)) (a .p .now))
 move-is c =
-    let a = c .before .before .before .before .before .before .before .before .before .args in
-    c .move-beside .ensures ∙ ap (moveBeside (length (a .p .now)) (a .back)) (ranked (c .before))
+    let a = c .before .before .before .before .before .before .before .before .args in
+    c .move-beside .ensures ∙ ap (moveBeside (length (a .p .now)) (a .back)) (c .before .rank-of .ensures)
 
 carry-move-requires : tie.Need-carry-move-requires
 carry-move-requires c κs =
-    let s = c .before .before .before .before .before in
+    let s = c .before .before .before .before in
     rw (move-is (c .before)) (goes mostPorts _ (sound s) (s .before .before .before .before .before .args .back) .form)
 
 returns : tie.Need-returns
@@ -61,9 +51,9 @@ returns c = beside-refused mostPorts (c .before .before .before .before .before 
 returns-2 : tie.Need-returns-2
 returns-2 c =
     let v = c .before .before .before .before in
-    let e = sound (v .before .before .before .before) in
-    let a = v .before .before .before .before .before .before .before .before .before .args in
-    let told = beside-accepted mostPorts (a .p .now) e (a .back) in
+    let s = v .before .before .before in
+    let a = s .before .before .before .before .before .args in
+    let told = beside-accepted mostPorts (a .p .now) (sound s) (a .back) in
     (ap accepted (move-is v) ∙ told .0, c .before .before .carry-move .ensures ∙ ap (λ w. moved w (a .p .now)) (move-is v) ∙ told .1)
 
 pub go-spec : {M : Type 1} → statement M
@@ -74,8 +64,7 @@ go-spec =
     (λ c. search needs)
     (λ c. search needs)
     cast-n
-    load-requires
-    place-requires
+    rank-of-requires
     move-beside-requires
     carry-move-requires
     (λ c. search needs)
