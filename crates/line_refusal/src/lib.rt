@@ -1,4 +1,5 @@
 // A refusal as text: `refused=` with its number and `at=` with its place, each on a line of its own.
+use line_writer::order_lines::LONGEST_LINE;
 use line_writer::order_lines::Spelled;
 use line_writer::order_lines::and_number;
 use line_writer::order_lines::and_part;
@@ -9,18 +10,18 @@ ghost use mathlib.Core.Path.{_≡_};
 ghost use Prim.Native.Nat.{_≤_};
 ghost use Rattle.words.specs.Told.{spotNumber};
 ghost use Rattle.words.specs.Meaning.{numberOf, spotOf};
-ghost use Rattle.line_writer.specs.Answers.{Spells};
+ghost use Rattle.line_writer.specs.Answers.{longestLine, Spells};
 ghost use Rattle.line_refusal.specs.Text.{refusalText};
 
 // The text of a refusal.
 pub fn refusal_text(f: Refusal) -> Spelled
     ensures { λ r. ⌜ Spells r (refusalText (numberOf (f .reason)) (spotNumber (spotOf (f .place)))) ⌝ }
-    ensures { λ r. ⌜ r .len ≤ 47 ⌝ }
+    ensures { λ r. ⌜ r .len ≤ longestLine ⌝ }
 {
     let reason = f.reason;
     let place = f.place;
     let none = Spelled {
-        bytes: [0u8; 47],
+        bytes: [0u8; LONGEST_LINE],
         len: 0,
     };
     let refused = and_number(and_part(none, b"refused="), reason_number(reason) as u64);

@@ -17,6 +17,10 @@ writtenTold (Written-Refused f) = refusalOf f
 
 -- ---- inner pieces
 
+-- the longest line that there is
+abbrev pub longestLine : ℕ
+longestLine = 47
+
 -- s is spelled as t: the first bytes are t, and the length says how many they are
 pub record Spells (s : Spelled) (t : List ℕ) : Type 0 where
   pub front : take (s .len) (s .bytes) ≡ t

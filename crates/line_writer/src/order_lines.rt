@@ -4,6 +4,7 @@ use text_numbers::writing::digits;
 use words::Line;
 use words::Order;
 use words::Reason;
+use words::limits::MOST_PORTS;
 use words::refusals::nowhere;
 use words::shapes::in_shape;
 ghost use mathlib.Core.Path.{_≡_};
@@ -17,17 +18,20 @@ ghost use Rattle.text_keys.specs.Parts.{comma};
 ghost use Rattle.line_format.specs.Format.{unended};
 ghost use Rattle.words.specs.Shape.{lineFits};
 ghost use Rattle.line_format.specs.Calls.{writeOf, writeBytes};
-ghost use Rattle.line_writer.specs.Answers.{writtenTold, Spells, Grown};
+ghost use Rattle.line_writer.specs.Answers.{writtenTold, longestLine, Spells, Grown};
 
-// A text of at most 47 bytes, the first len of them: `mark=` and two numbers of 20 digits are the longest line that there is.
+// The longest line that there is: `mark=`, two numbers of 20 digits with a comma between them, and the newline.
+pub const LONGEST_LINE: usize = 47;
+
+// A text that is no longer than the longest line, the first len bytes.
 pub struct Spelled {
-    pub bytes: [u8; 47],
+    pub bytes: [u8; LONGEST_LINE],
     pub len: usize,
 }
 
 // A text and a part after it.
 pub fn and_part(s: Spelled, part: &[u8]) -> Spelled
-    requires { ⌜ s .len + length (now part) ≤ 47 ⌝ }
+    requires { ⌜ s .len + length (now part) ≤ longestLine ⌝ }
     ensures { λ r. ⌜ Grown s (now (part .entry)) r ⌝ }
 {
     let at = s.len;
@@ -46,7 +50,7 @@ pub fn and_part(s: Spelled, part: &[u8]) -> Spelled
 
 // A text and a number after it.
 pub fn and_number(s: Spelled, n: u64) -> Spelled
-    requires { ⌜ s .len + length (digitsOf n) ≤ 47 ⌝ }
+    requires { ⌜ s .len + length (digitsOf n) ≤ longestLine ⌝ }
     ensures { λ r. ⌜ Grown s (digitsOf n) r ⌝ }
 {
     let text = digits(n);
@@ -61,7 +65,7 @@ fn begun(key: &[u8], n: u64) -> Spelled
     ensures { λ r. ⌜ Spells r (now (key .entry) ++ digitsOf n) ⌝ }
 {
     let none = Spelled {
-        bytes: [0u8; 47],
+        bytes: [0u8; LONGEST_LINE],
         len: 0,
     };
     and_number(and_part(none, key), n)
@@ -69,7 +73,7 @@ fn begun(key: &[u8], n: u64) -> Spelled
 
 // A text, a comma and a number after it.
 fn and_next(s: Spelled, n: u64) -> Spelled
-    requires { ⌜ s .len + 1 + length (digitsOf n) ≤ 47 ⌝ }
+    requires { ⌜ s .len + 1 + length (digitsOf n) ≤ longestLine ⌝ }
     ensures { λ r. ⌜ Grown s (comma ∷ digitsOf n) r ⌝ }
 {
     and_number(and_part(s, b","), n)
@@ -78,7 +82,7 @@ fn and_next(s: Spelled, n: u64) -> Spelled
 // The text of an order without its newline.
 fn order_text(o: Order) -> Spelled
     ensures text { λ r. ⌜ Spells r (unended (Movement o)) ⌝ }
-    ensures room { λ r. ⌜ r .len ≤ 46 ⌝ }
+    ensures room { λ r. ⌜ r .len + 1 ≤ longestLine ⌝ }
 {
     match o {
         Order::Swap(a, b) => and_next(begun(b"swap=", a.0 as u64), b.0 as u64),
@@ -92,7 +96,7 @@ fn order_text(o: Order) -> Spelled
 // The text of a line without its newline.
 fn line_text(line: Line) -> Spelled
     ensures text { λ r. ⌜ Spells r (unended line) ⌝ }
-    ensures room { λ r. ⌜ r .len ≤ 46 ⌝ }
+    ensures room { λ r. ⌜ r .len + 1 ≤ longestLine ⌝ }
 {
     match line {
         Line::Movement(o) => order_text(o),
@@ -101,12 +105,12 @@ fn line_text(line: Line) -> Spelled
     }
 }
 
-// Whether a line can be written: an order in shape on 20 jacks, each mark and each end.
+// Whether a line can be written: an order in shape on the most jacks, each mark and each end.
 fn fits(line: Line) -> bool
     ensures { λ r. ⌜ r ≡ lineFits mostPorts line ⌝ }
 {
     match line {
-        Line::Movement(o) => in_shape(20, o),
+        Line::Movement(o) => in_shape(MOST_PORTS, o),
         Line::Mark(_, _) => true,
         Line::End(_) => true,
     }

@@ -1,6 +1,10 @@
 // A plan in places, and the legs that they hold: whether they are within the rules, a leg by its number, the marks before it. Inner pieces of the campaign.
 use pattern_steps::counts::count_of;
 use words::Leg;
+use words::limits::FEWEST_PORTS;
+use words::limits::LEG_PLACES;
+use words::limits::MOST_LEGS;
+use words::limits::MOST_PORTS;
 use words::signs::by_sign;
 ghost use mathlib.Core.Path.{_≡_};
 ghost use mathlib.Core.Bool.{true, cond};
@@ -15,8 +19,8 @@ ghost use Rattle.plan_rules.specs.Planned.{device};
 pub struct Plan {
     pub ports: u8,
     pub legs: u8,
-    pub starts: [u64; 16],
-    pub runs: [i64; 16],
+    pub starts: [u64; LEG_PLACES],
+    pub runs: [i64; LEG_PLACES],
 }
 
 // The leg that a start and a run are.
@@ -55,7 +59,7 @@ fn places_ruled(p: Plan, size: u64) -> bool
     let starts = p.starts;
     let runs = p.runs;
     let mut at: usize = 0;
-    while at < 16 {
+    while at < LEG_PLACES {
         if place_ruled(size, at < legs, leg_of(starts[at], runs[at])) {
             at += 1;
         } else {
@@ -69,16 +73,16 @@ fn places_ruled(p: Plan, size: u64) -> bool
 pub fn plan_ruled(p: Plan) -> bool
     ensures { λ r. ⌜ r ≡ planRuled device p ⌝ }
 {
-    if p.ports < 2 {
+    if p.ports < FEWEST_PORTS {
         return false;
     }
-    if 20 < p.ports {
+    if MOST_PORTS < p.ports {
         return false;
     }
     if p.legs < 1 {
         return false;
     }
-    if 16 < p.legs {
+    if MOST_LEGS < p.legs {
         return false;
     }
     places_ruled(p, count_of(p.ports))

@@ -10,6 +10,10 @@ use words::Outcome;
 use words::Reason;
 use words::Refusal;
 use words::Signed;
+use words::limits::FEWEST_PORTS;
+use words::limits::LEG_PLACES;
+use words::limits::MOST_LEGS;
+use words::limits::MOST_PORTS;
 use words::refusals::at_line;
 use words::signs::with_sign;
 ghost use mathlib.Core.Path.{_≡_};
@@ -22,6 +26,13 @@ ghost use Rattle.plans.specs.Reading.{legIn, legsIn, withPorts};
 ghost use Rattle.plans.specs.Places.{legTold, LegWithin};
 ghost use Rattle.plans.specs.Answers.{Answers};
 ghost use Rattle.plans.specs.Calls.{readPlanOf};
+
+// The ports of a plan: from the fewest on and below one more than the most; and its legs.
+const PORTS_FROM: u64 = FEWEST_PORTS as u64;
+
+const PORTS_BELOW: u64 = MOST_PORTS as u64 + 1;
+
+const LEGS_BELOW: u64 = MOST_LEGS as u64 + 1;
 
 // A leg that was read, and the place after its lines.
 pub enum LegRead {
@@ -38,8 +49,8 @@ fn refused(f: Refusal) -> ReadPlan
         plan: Plan {
             ports: 0,
             legs: 0,
-            starts: [0u64; 16],
-            runs: [0i64; 16],
+            starts: [0u64; LEG_PLACES],
+            runs: [0i64; LEG_PLACES],
         },
     }
 }
@@ -86,8 +97,8 @@ fn read_legs(text: &[u8], from: usize, ports: u8, legs: u8) -> ReadPlan
     ensures { λ r. ⌜ Answers mostLegs (withPorts ports (legsIn largest64 (count ports) legs 3 (drop from (now (text .entry))))) r ⌝ }
 {
     let count = count_of(ports);
-    let mut starts = [0u64; 16];
-    let mut runs = [0i64; 16];
+    let mut starts = [0u64; LEG_PLACES];
+    let mut runs = [0i64; LEG_PLACES];
     let mut at = from;
     let mut done: u8 = 0;
     while done < legs {
@@ -128,8 +139,8 @@ pub fn read_plan(text: &[u8]) -> ReadPlan
 {
     let good_ports = Values {
         sign: false,
-        low: 2,
-        below: 21,
+        low: PORTS_FROM,
+        below: PORTS_BELOW,
         reason: Reason::Ports,
     };
     match value_at(text, 0, b"ports=", good_ports, 1) {
@@ -138,7 +149,7 @@ pub fn read_plan(text: &[u8]) -> ReadPlan
             let good_legs = Values {
                 sign: false,
                 low: 1,
-                below: 17,
+                below: LEGS_BELOW,
                 reason: Reason::Legs,
             };
             match value_at(text, at, b"legs=", good_legs, 2) {

@@ -8,15 +8,15 @@ use lib.IntN.{pos, negℤ, _-ℤ_, +ℤ-idl}
 use mir.Syntax.{w64}
 use mir.Val.{SFits, toZ, ofZ}
 use mir.ValLaws.{toZ-pos, toZ-ofZ}
-use Rattle.words.specs.Signs.{ahead, behind, withSign}
+use Rattle.words.specs.Signs.{ahead, behind, signedLimit, withSign}
 use Rattle.words.specs.declared.Signed.{Signed}
 
 -- what lies as far behind 0 is a signed number of 64 bits
-behind-fits : (m : ℕ) → m < 9223372036854775808 → SFits w64 (negℤ (pos m))
+behind-fits : (m : ℕ) → m < signedLimit → SFits w64 (negℤ (pos m))
 behind-fits zero h = record { sfits = h }
 behind-fits (suc n) h = record { sfits = omega arith }
 
-module _ (m : ℕ) (h : m < 9223372036854775808) where
+module _ (m : ℕ) (h : m < signedLimit) where
   -- the magnitude as a signed number
   pub ahead-is : toZ w64 m ≡ withSign (ahead m)
   ahead-is = toZ-pos w64 m h
@@ -36,5 +36,5 @@ module _ (m : ℕ) (h : m < 9223372036854775808) where
   stored-by false = ahead-is
 
 -- it is stored as it is
-pub stored : (s : Signed) → s .magnitude < 9223372036854775808 → toZ w64 (ofZ w64 (withSign s)) ≡ withSign s
+pub stored : (s : Signed) → s .magnitude < signedLimit → toZ w64 (ofZ w64 (withSign s)) ≡ withSign s
 stored s h = stored-by (s .magnitude) h (s .back)

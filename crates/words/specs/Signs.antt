@@ -22,6 +22,10 @@ abbrev pub bySign : ℤ → Signed
 bySign (pos n) = ahead n
 bySign (negsuc n) = behind (suc n)
 
+-- the magnitudes that a signed number of 64 bits may have both ahead and behind are below 2^63
+abbrev pub signedLimit : ℕ
+signedLimit = 9223372036854775808
+
 -- the number that a sign and a magnitude are
 abbrev pub withSign : Signed → ℤ
 withSign s = cond (s .back) (negℤ (pos (s .magnitude))) (pos (s .magnitude))

@@ -2,7 +2,7 @@
 use crate::Signed;
 ghost use mathlib.Core.Path.{_≡_};
 ghost use Prim.Native.Nat.{_<_};
-ghost use Rattle.words.specs.Signs.{bySign, withSign};
+ghost use Rattle.words.specs.Signs.{bySign, signedLimit, withSign};
 
 // k by its sign. The magnitude of the lowest 64-bit number is 2^63.
 pub fn by_sign(k: i64) -> Signed
@@ -23,7 +23,7 @@ pub fn by_sign(k: i64) -> Signed
 
 // The number of a sign and a magnitude below 2^63.
 pub fn with_sign(s: Signed) -> i64
-    requires { ⌜ s .magnitude < 9223372036854775808 ⌝ }
+    requires { ⌜ s .magnitude < signedLimit ⌝ }
     ensures { λ r. ⌜ r ≡ withSign s ⌝ }
 {
     if s.back {

@@ -14,6 +14,7 @@ use Rattle.plans.specs.Places.{legTold, LegWithin}
 use Rattle.plan_rules.specs.Rules.{legIs}
 use Rattle.plans.specs.Answers.{Answers}
 use Rattle.plans.proofs.Legs.{leg-accepted}
+use Rattle.words.specs.Signs.{signedLimit}
 use Rattle.words.proofs.WithSign.{stored}
 use Rattle.plans.proofs.Turns.{Read, read-none, read-more, leg-refused, byte-after, plan-read}
 use Rattle.plans.proofs.reading.read_legs.Statement.{statement}
@@ -27,7 +28,7 @@ abbrev μ-loop : tie.MeasureT-loop
 μ-loop text from ports legs count starts₀ runs₀ at₀ done₀ starts runs at done = legs - done
 
 -- the run that was read is below the count, so below 2^63
-below : (c : tie.After-known-told2 Inv-loop μ-loop) → c .before .leg .given .0 .0 .run < 9223372036854775808
+below : (c : tie.After-known-told2 Inv-loop μ-loop) → c .before .leg .given .0 .0 .run < signedLimit
 below c =
     let l = c .before .before .before in
     let n = l .before .before .before in
