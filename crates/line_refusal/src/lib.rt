@@ -1,8 +1,8 @@
 // A refusal as text: `refused=` with its number and `at=` with its place, each on a line of its own.
-use line_writer::order_lines::LONGEST_LINE;
 use line_writer::order_lines::Spelled;
-use line_writer::order_lines::and_number;
+use line_writer::order_lines::and_both;
 use line_writer::order_lines::and_part;
+use line_writer::order_lines::begun;
 use words::Refusal;
 use words::refusals::place_number;
 use words::refusals::reason_number;
@@ -20,11 +20,7 @@ pub fn refusal_text(f: Refusal) -> Spelled
 {
     let reason = f.reason;
     let place = f.place;
-    let none = Spelled {
-        bytes: [0u8; LONGEST_LINE],
-        len: 0,
-    };
-    let refused = and_number(and_part(none, b"refused="), reason_number(reason) as u64);
-    let at = and_number(and_part(refused, b"\nat="), place_number(place) as u64);
+    let refused = begun(b"refused=", reason_number(reason) as u64);
+    let at = and_both(refused, b"\nat=", place_number(place) as u64);
     and_part(at, b"\n")
 }

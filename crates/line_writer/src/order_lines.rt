@@ -59,24 +59,32 @@ pub fn and_number(s: Spelled, n: u64) -> Spelled
     and_part(s, &bytes[..k])
 }
 
-// A key and the first number after it.
-fn begun(key: &[u8], n: u64) -> Spelled
-    requires { ⌜ length (now key) ≤ 5 ⌝ }
+// A text, and a part and a number after it.
+pub fn and_both(s: Spelled, part: &[u8], n: u64) -> Spelled
+    requires { ⌜ s .len + length (now part) + length (digitsOf n) ≤ longestLine ⌝ }
+    ensures { λ r. ⌜ Grown s (now (part .entry) ++ digitsOf n) r ⌝ }
+{
+    and_number(and_part(s, part), n)
+}
+
+// A key and a number after it, where a text begins.
+pub fn begun(key: &[u8], n: u64) -> Spelled
+    requires { ⌜ length (now key) ≤ 8 ⌝ }
     ensures { λ r. ⌜ Spells r (now (key .entry) ++ digitsOf n) ⌝ }
 {
     let none = Spelled {
         bytes: [0u8; LONGEST_LINE],
         len: 0,
     };
-    and_number(and_part(none, key), n)
+    and_both(none, key, n)
 }
 
-// A text, a comma and a number after it.
+// A text, and a comma and a number after it.
 fn and_next(s: Spelled, n: u64) -> Spelled
     requires { ⌜ s .len + 1 + length (digitsOf n) ≤ longestLine ⌝ }
     ensures { λ r. ⌜ Grown s (comma ∷ digitsOf n) r ⌝ }
 {
-    and_number(and_part(s, b","), n)
+    and_both(s, b",", n)
 }
 
 // The text of an order without its newline.

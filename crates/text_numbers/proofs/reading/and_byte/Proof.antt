@@ -10,24 +10,6 @@ use Rattle.text_numbers.proofs.Limits.{none-up-to}
 use Rattle.text_numbers.proofs.reading.and_byte.Statement.{statement}
 use Rattle.text_numbers.proofs.reading.and_byte.Tie as tie
 
-enum-known-found : tie.Need-enum-known-found
-enum-known-found c = search needs
-
-digit-in-requires : tie.Need-digit-in-requires
-digit-in-requires c κs = search needs
-
-enum-known-d : tie.Need-enum-known-d
-enum-known-d c = search needs
-
-and-digit-requires : tie.Need-and-digit-requires
-and-digit-requires c κs = search needs
-
-enum-told : tie.Need-enum-told
-enum-told c = search needs
-
-enum-told-2 : tie.Need-enum-told-2
-enum-told-2 c = search needs
-
 returns : tie.Need-returns
 returns c =
     let m = c .before .before .before in
@@ -50,12 +32,12 @@ pub and-byte-spec : {M : Type 1} → statement M
 and-byte-spec =
     tie.close
     (tie.spec
-    enum-known-found
-    digit-in-requires
-    enum-known-d
-    and-digit-requires
-    enum-told
-    enum-told-2
+    (λ c. search needs)
+    (λ c κs. search needs)
+    (λ c. search needs)
+    (λ c κs. search needs)
+    (λ c. search needs)
+    (λ c. search needs)
     returns
     returns-2
     returns-3)

@@ -13,20 +13,11 @@ returns c = let a = c .before .args in sym (more-zero largest64 (a .v) (a .d) (o
 returns-2 : tie.Need-returns-2
 returns-2 c = let a = c .before .before .args in sym (more-above largest64 (a .v) (a .d) (omega arith) (omega arith))
 
-mul-tens : tie.Need-mul-tens
-mul-tens c = search needs
-
-sub-if3 : tie.Need-sub-if3
-sub-if3 c = search needs
-
 returns-3 : tie.Need-returns-3
 returns-3 c = let a = c .before .before .before .args in sym (more-above largest64 (a .v) (a .d) (omega arith) (omega arith))
-
-add-t5 : tie.Need-add-t5
-add-t5 c = search needs
 
 returns-4 : tie.Need-returns-4
 returns-4 c = let a = c .before .before .before .args in sym (more-within largest64 (a .v) (a .d) (omega arith) (omega arith))
 
 pub and-digit-spec : {M : Type 1} → statement M
-and-digit-spec = tie.close (tie.spec returns returns-2 mul-tens sub-if3 returns-3 add-t5 returns-4)
+and-digit-spec = tie.close (tie.spec returns returns-2 (λ c. search needs) (λ c. search needs) returns-3 (λ c. search needs) returns-4)

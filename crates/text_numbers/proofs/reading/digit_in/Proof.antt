@@ -13,11 +13,8 @@ returns c = sym (no-digit _ (inl (omega arith)))
 returns-2 : tie.Need-returns-2
 returns-2 c = sym (no-digit _ (inr (omega arith)))
 
-cast-t4 : tie.Need-cast-t4
-cast-t4 c = search needs
-
 returns-3 : tie.Need-returns-3
 returns-3 c = sym (digit-byte _ (omega arith) (omega arith))
 
 pub digit-in-spec : {M : Type 1} → statement M
-digit-in-spec = tie.close (tie.spec returns returns-2 cast-t4 returns-3)
+digit-in-spec = tie.close (tie.spec returns returns-2 (λ c. search needs) returns-3)

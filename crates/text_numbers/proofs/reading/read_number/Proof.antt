@@ -25,12 +25,6 @@ abbrev μ-loop : tie.MeasureT-loop
 returns : tie.Need-returns Inv-loop μ-loop
 returns c = sym (ap (upTo largest64) (number-empty _ (c .if1 .taken)) ∙ none-up-to largest64)
 
-shared-slice-read-digit-in : tie.Need-shared-slice-read-digit-in Inv-loop μ-loop
-shared-slice-read-digit-in c = search needs
-
-digit-in-requires : tie.Need-digit-in-requires Inv-loop μ-loop
-digit-in-requires c κs = search needs
-
 loop-holds : tie.Need-loop-holds Inv-loop μ-loop
 loop-holds c =
     let t = c .before .before .before .before .args .t .now in (
@@ -38,18 +32,6 @@ loop-holds c =
       ap (upTo largest64) (number-first t (c .before .before .if1 .left) ∙ ap (λ o. onward o (drop 1 t)) (sym (c .digit-in .ensures))),
       ap (upTo largest64) (c .digit-in .ensures) ∙ digit-within largest64 _ (omega arith) ∙ sym (c .digit-in .ensures),
     )
-
-shared-slice-read-and-byte : tie.Need-shared-slice-read-and-byte Inv-loop μ-loop
-shared-slice-read-and-byte c = search needs
-
-and-byte-requires : tie.Need-and-byte-requires Inv-loop μ-loop
-and-byte-requires c κs = search needs
-
-add-at : tie.Need-add-at Inv-loop μ-loop
-add-at c = search needs
-
-loop-less : tie.Need-loop-less Inv-loop μ-loop
-loop-less c = search needs
 
 loop-again : tie.Need-loop-again Inv-loop μ-loop
 loop-again c =
@@ -72,12 +54,12 @@ read-number-spec =
     Inv-loop
     μ-loop
     returns
-    shared-slice-read-digit-in
-    digit-in-requires
+    (λ c. search needs)
+    (λ c κs. search needs)
     loop-holds
-    shared-slice-read-and-byte
-    and-byte-requires
-    add-at
-    loop-less
+    (λ c. search needs)
+    (λ c κs. search needs)
+    (λ c. search needs)
+    (λ c. search needs)
     loop-again
     returns-2)

@@ -34,20 +34,11 @@ loop-holds c = (
   over-zeros mostDigits (c .args .n),
 )
 
-cast-bytes : tie.Need-cast-bytes Inv-loop μ-loop
-cast-bytes c = search needs
-
-add-bytes : tie.Need-add-bytes Inv-loop μ-loop
-add-bytes c = search needs
-
 sub-bytes : tie.Need-sub-bytes Inv-loop μ-loop
 sub-bytes c = omega (arith, length-some (c .before .loop .rest))
 
 array-write-bytes : tie.Need-array-write-bytes Inv-loop μ-loop
 array-write-bytes c = omega (arith, length-some (c .before .loop .rest))
-
-add-place : tie.Need-add-place Inv-loop μ-loop
-add-place c = search needs
 
 loop-less : tie.Need-loop-less Inv-loop μ-loop
 loop-less c = fewer-tens _ (c .loop-test .taken)
@@ -63,12 +54,6 @@ loop-again c =
       search needs,
       digit-set (l .rest) (l .bytes) (k - l .place) (c .loop-test .taken) (omega arith) (omega arith) ∙ l .inv .4,
     )
-
-cast-bytes-2 : tie.Need-cast-bytes-2 Inv-loop μ-loop
-cast-bytes-2 c = search needs
-
-add-bytes-2 : tie.Need-add-bytes-2 Inv-loop μ-loop
-add-bytes-2 c = search needs
 
 sub-bytes-2 : tie.Need-sub-bytes-2 Inv-loop μ-loop
 sub-bytes-2 c = omega (arith, length-some (c .before .loop .rest))
@@ -90,15 +75,15 @@ spelt-spec =
     Inv-loop
     μ-loop
     loop-holds
-    cast-bytes
-    add-bytes
+    (λ c. search needs)
+    (λ c. search needs)
     sub-bytes
     array-write-bytes
-    add-place
+    (λ c. search needs)
     loop-less
     loop-again
-    cast-bytes-2
-    add-bytes-2
+    (λ c. search needs)
+    (λ c. search needs)
     sub-bytes-2
     array-write-bytes-2
     returns)
