@@ -1,6 +1,7 @@
 // The calls for C on a campaign whose state stands in the words of the caller (include/jidrofex.h).
 use campaign::Answer;
 use campaign::Campaign;
+use face_state::places::STATE_WORDS;
 use face_state::state_in;
 use face_state::state_out;
 use face_values::answers::ANSWER_WORDS;
@@ -71,7 +72,7 @@ pub extern "C" fn jidrofex_begin(
     ensures words { λ _. ⌜ now (answer .exit) ≡ wordsTold nothing (beginTold (now (text .entry)) (now (state .entry))) ⌝ }
     ensures left { λ _. ⌜ now (state .exit) ≡ beginWords (now (text .entry)) (now (state .entry)) ⌝ }
 {
-    if state.len() != 61 {
+    if state.len() != STATE_WORDS {
         return unfit(answer);
     }
     let begun = Campaign::begin(text);

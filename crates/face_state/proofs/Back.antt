@@ -19,7 +19,7 @@ use Rattle.listing.proofs.Numbers.{either, test, below?}
 use Rattle.campaign_state.specs.declared.State.{State}
 use Rattle.campaign_state.proofs.Places.{Sized}
 use Rattle.face_values.specs.Lines.{largest8}
-use Rattle.face_state.specs.States.{stateCount, largest32, runBits, runIn, bit, lastWords, stateWords, limits, within, word, wordsAt, stateAt, stateIn}
+use Rattle.face_state.specs.States.{portsPlace, legsPlace, startsPlace, runsPlace, panelPlace, legPlace, stepPlace, coveredPlace, openPlace, errorsPlace, standingPlace, endedPlace, stateCount, largest32, runBits, runIn, bit, lastWords, stateWords, limits, within, word, wordsAt, stateAt, stateIn}
 use Rattle.face_state.proofs.Parts.{drop-past}
 use Rattle.face_state.proofs.Within.{within-length, within-at, within-parts, within-same}
 use Rattle.face_state.proofs.Runs.{bits-fit, all-bits-back, all-runs-back}
@@ -76,27 +76,27 @@ module _ (s : State) (k : InRange s) where
   kept-within =
       let z = k .sized in
       within-parts (s .plan .ports ∷ s .plan .legs ∷ []) (s .plan .starts ++ (map runBits (s .plan .runs) ++ (s .panel ++ lastWords s)))
-      (take 2 limits) (drop 2 limits) counts-within
-      (within-parts (s .plan .starts) (map runBits (s .plan .runs) ++ (s .panel ++ lastWords s)) (replicate mostLegs largest64) (drop 18 limits)
+      (take startsPlace limits) (drop startsPlace limits) counts-within
+      (within-parts (s .plan .starts) (map runBits (s .plan .runs) ++ (s .panel ++ lastWords s)) (replicate mostLegs largest64) (drop runsPlace limits)
       (within-same (s .plan .starts) mostLegs largest64 (z .starts) (k .starts))
-      (within-parts (map runBits (s .plan .runs)) (s .panel ++ lastWords s) (replicate mostLegs largest64) (drop 34 limits)
+      (within-parts (map runBits (s .plan .runs)) (s .panel ++ lastWords s) (replicate mostLegs largest64) (drop panelPlace limits)
       (within-same (map runBits (s .plan .runs)) mostLegs largest64 (bits-length s z) bits-held)
-      (within-parts (s .panel) (lastWords s) (replicate mostPorts largest8) (drop 54 limits)
+      (within-parts (s .panel) (lastWords s) (replicate mostPorts largest8) (drop legPlace limits)
       (within-same (s .panel) mostPorts largest8 (z .panel) (k .panel)) last-within)))
 
-  starts-back : wordsAt (stateWords s) 2 mostLegs ≡ s .plan .starts
+  starts-back : wordsAt (stateWords s) startsPlace mostLegs ≡ s .plan .starts
   starts-back = take-at (s .plan .starts) (map runBits (s .plan .runs) ++ (s .panel ++ lastWords s)) mostLegs (k .sized .starts)
 
-  runs-back : map runIn (wordsAt (stateWords s) 18 mostLegs) ≡ s .plan .runs
+  runs-back : map runIn (wordsAt (stateWords s) runsPlace mostLegs) ≡ s .plan .runs
   runs-back =
       ap (λ l. map runIn (take mostLegs l)) (drop-at (s .plan .starts) (map runBits (s .plan .runs) ++ (s .panel ++ lastWords s)) mostLegs (k .sized .starts))
       ∙ ap (map runIn) (take-at (map runBits (s .plan .runs)) (s .panel ++ lastWords s) mostLegs (bits-length s (k .sized)))
       ∙ all-runs-back (s .plan .runs) (k .runs)
 
-  panel-back : wordsAt (stateWords s) 34 mostPorts ≡ s .panel
+  panel-back : wordsAt (stateWords s) panelPlace mostPorts ≡ s .panel
   panel-back =
       ap (take mostPorts)
-      (drop-past (s .plan .starts) (map runBits (s .plan .runs) ++ (s .panel ++ lastWords s)) mostLegs 16 (k .sized .starts)
+      (drop-past (s .plan .starts) (map runBits (s .plan .runs) ++ (s .panel ++ lastWords s)) mostLegs mostLegs (k .sized .starts)
       ∙ drop-at (map runBits (s .plan .runs)) (s .panel ++ lastWords s) mostLegs (bits-length s (k .sized)))
       ∙ take-at (s .panel) (lastWords s) mostPorts (k .sized .panel)
 
@@ -104,16 +104,16 @@ module _ (s : State) (k : InRange s) where
   at-back : stateAt (stateWords s) ≡ s
   at-back =
       let z = k .sized in
-      let stands = ap (λ w. eqb w 1) (last-word s z 59 (omega arith)) ∙ bool-back (s .standing) in
-      let ends = ap (λ w. eqb w 1) (last-word s z 60 (omega arith)) ∙ bool-back (s .ended) in
+      let stands = ap (λ w. eqb w 1) (last-word s z standingPlace (omega arith)) ∙ bool-back (s .standing) in
+      let ends = ap (λ w. eqb w 1) (last-word s z endedPlace (omega arith)) ∙ bool-back (s .ended) in
       λ i. record {
         plan = record { ports = s .plan .ports; legs = s .plan .legs; starts = starts-back i; runs = runs-back i };
         panel = panel-back i;
-        leg = last-word s z 54 (omega arith) i;
-        step = last-word s z 55 (omega arith) i;
-        covered = last-word s z 56 (omega arith) i;
-        opened = last-word s z 57 (omega arith) i;
-        errors = last-word s z 58 (omega arith) i;
+        leg = last-word s z legPlace (omega arith) i;
+        step = last-word s z stepPlace (omega arith) i;
+        covered = last-word s z coveredPlace (omega arith) i;
+        opened = last-word s z openPlace (omega arith) i;
+        errors = last-word s z errorsPlace (omega arith) i;
         standing = stands i;
         ended = ends i;
       }
@@ -152,32 +152,32 @@ module _ (ws : List ℕ) (e : within ws limits ≡ true) where
   part at n = sym (take-append-drop n (drop at ws)) ∙ ap (λ l. wordsAt ws at n ++ l) (drop-drop n at ws)
 
   -- the last seven
-  last-back : drop 54 ws ≡ lastWords (stateAt ws)
+  last-back : drop legPlace ws ≡ lastWords (stateAt ws)
   last-back =
-      next 54 (omega arith)
-      ∙ ap (λ l. word ws 54 ∷ l) (next 55 (omega arith)
-      ∙ ap (λ l. word ws 55 ∷ l) (next 56 (omega arith)
-      ∙ ap (λ l. word ws 56 ∷ l) (next 57 (omega arith)
-      ∙ ap (λ l. word ws 57 ∷ l) (next 58 (omega arith)
-      ∙ ap (λ l. word ws 58 ∷ l) (next 59 (omega arith)
-      ∙ ap (λ l. word ws 59 ∷ l) (next 60 (omega arith) ∙ ap (λ l. word ws 60 ∷ l) (drop-of-length-le ws {i = stateCount} (omega (arith, many))))
+      next legPlace (omega arith)
+      ∙ ap (λ l. word ws legPlace ∷ l) (next stepPlace (omega arith)
+      ∙ ap (λ l. word ws stepPlace ∷ l) (next coveredPlace (omega arith)
+      ∙ ap (λ l. word ws coveredPlace ∷ l) (next openPlace (omega arith)
+      ∙ ap (λ l. word ws openPlace ∷ l) (next errorsPlace (omega arith)
+      ∙ ap (λ l. word ws errorsPlace ∷ l) (next standingPlace (omega arith)
+      ∙ ap (λ l. word ws standingPlace ∷ l) (next endedPlace (omega arith) ∙ ap (λ l. word ws endedPlace ∷ l) (drop-of-length-le ws {i = stateCount} (omega (arith, many))))
       ∙ bits)))))
     where
-      bits : word ws 59 ∷ word ws 60 ∷ [] ≡ bit (eqb (word ws 59) 1) ∷ bit (eqb (word ws 60) 1) ∷ []
-      bits = rw (bit-back (word ws 59) (within-at ws limits e 59 (omega arith)), bit-back (word ws 60) (within-at ws limits e 60 (omega arith))) refl
+      bits : word ws standingPlace ∷ word ws endedPlace ∷ [] ≡ bit (eqb (word ws standingPlace) 1) ∷ bit (eqb (word ws endedPlace) 1) ∷ []
+      bits = rw (bit-back (word ws standingPlace) (within-at ws limits e standingPlace (omega arith)), bit-back (word ws endedPlace) (within-at ws limits e endedPlace (omega arith))) refl
 
   -- all of them
   pub words-of : stateWords (stateAt ws) ≡ ws
   words-of =
-      let runs = ap (λ l. l ++ (wordsAt ws 34 mostPorts ++ drop 54 ws)) (all-bits-back (wordsAt ws 18 mostLegs) (part-held 18 mostLegs)) in
+      let runs = ap (λ l. l ++ (wordsAt ws panelPlace mostPorts ++ drop legPlace ws)) (all-bits-back (wordsAt ws runsPlace mostLegs) (part-held runsPlace mostLegs)) in
       sym
-      (next 0 (omega arith)
-      ∙ ap (λ l. word ws 0 ∷ l) (next 1 (omega arith)
-      ∙ ap (λ l. word ws 1 ∷ l) (part 2 mostLegs
-      ∙ ap (λ l. wordsAt ws 2 mostLegs ++ l) (part 18 mostLegs
-      ∙ ap (λ l. wordsAt ws 18 mostLegs ++ l) (part 34 mostPorts)
+      (next portsPlace (omega arith)
+      ∙ ap (λ l. word ws portsPlace ∷ l) (next legsPlace (omega arith)
+      ∙ ap (λ l. word ws legsPlace ∷ l) (part startsPlace mostLegs
+      ∙ ap (λ l. wordsAt ws startsPlace mostLegs ++ l) (part runsPlace mostLegs
+      ∙ ap (λ l. wordsAt ws runsPlace mostLegs ++ l) (part panelPlace mostPorts)
       ∙ sym runs
-      ∙ ap (λ l. map runBits (map runIn (wordsAt ws 18 mostLegs)) ++ (wordsAt ws 34 mostPorts ++ l)) last-back))))
+      ∙ ap (λ l. map runBits (map runIn (wordsAt ws runsPlace mostLegs)) ++ (wordsAt ws panelPlace mostPorts ++ l)) last-back))))
 
 -- words are one state only
 one-state : {s t : State} → some s ≡ some t → s ≡ t

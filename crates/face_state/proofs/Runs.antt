@@ -17,24 +17,24 @@ use Rattle.listing.specs.Limits.{largest64}
 use Rattle.listing.proofs.Numbers.{either, test}
 use Rattle.words.specs.Signs.{bySign}
 use Rattle.words.specs.declared.Signed.{Signed}
-use Rattle.face_state.specs.States.{runBits, runIn}
+use Rattle.face_state.specs.States.{runBits, firstBack, runIn}
 
 -- ---- back and forth
 
 -- the run of a run's bits is that run
 pub run-back : (z : ℤ) → SFits w64 z → runIn (runBits z) ≡ z
 unfolding runIn
-run-back (pos n) f = rw (lt-ltb n 9223372036854775808 (f .sfits)) refl
+run-back (pos n) f = rw (lt-ltb n firstBack (f .sfits)) refl
 run-back (negsuc n) f =
     let h = f .sfits in
     let back : largest64 - (largest64 - n) ≡ n = omega arith in
-    rw (le-ltb (largest64 - n) 9223372036854775808 (omega arith), back) refl
+    rw (le-ltb (largest64 - n) firstBack (omega arith), back) refl
 
 -- the bits of a word's run are that word
 pub bits-back : (w : ℕ) → w ≤ largest64 → runBits (runIn w) ≡ w
 unfolding runIn
 bits-back w h =
-    either (test (ltb w 9223372036854775808))
+    either (test (ltb w firstBack))
     (λ t. rw t refl)
     (λ t. let back : largest64 - (largest64 - w) ≡ w = omega arith in rw (t, back) refl)
 
@@ -57,9 +57,9 @@ bits-fit (negsuc n) f = omega arith
 pub run-fits : (w : ℕ) → w ≤ largest64 → SFits w64 (runIn w)
 unfolding runIn
 run-fits w h =
-    either (test (ltb w 9223372036854775808))
-    (λ t. rw t (record { sfits = ltb-true w 9223372036854775808 t }))
-    (λ t. let l = ltb-false w 9223372036854775808 t in rw t (record { sfits = omega arith }))
+    either (test (ltb w firstBack))
+    (λ t. rw t (record { sfits = ltb-true w firstBack t }))
+    (λ t. let l = ltb-false w firstBack t in rw t (record { sfits = omega arith }))
 
 -- ---- what the code computes
 
@@ -70,18 +70,18 @@ minus-one (suc n) = ap (λ k. negsuc (suc k)) (zero-add n)
 
 module _ (w : ℕ) where
   -- below 2^63 the word as it is
-  pub ahead-in : w < 9223372036854775808 → toZ w64 w ≡ runIn w
+  pub ahead-in : w < firstBack → toZ w64 w ≡ runIn w
   unfolding runIn
-  ahead-in h = toZ-pos w64 w h ∙ rw (lt-ltb w 9223372036854775808 h) refl
+  ahead-in h = toZ-pos w64 w h ∙ rw (lt-ltb w firstBack h) refl
 
-  module _ (h : w ≤ largest64) (b : 9223372036854775808 ≤ w) where
+  module _ (h : w ≤ largest64) (b : firstBack ≤ w) where
     -- else -1 less what is missing to the largest
     less : negsuc 0 -ℤ toZ w64 (largest64 - w) ≡ runIn w
     unfolding runIn
     less =
         ap (λ z. negsuc 0 -ℤ z) (toZ-pos w64 (largest64 - w) (omega arith))
         ∙ minus-one (largest64 - w)
-        ∙ rw (le-ltb w 9223372036854775808 b) refl
+        ∙ rw (le-ltb w firstBack b) refl
 
     pub behind-sub : SFits w64 (negsuc 0 -ℤ toZ w64 (largest64 - w))
     behind-sub = subst (SFits w64) (sym less) (run-fits w h)

@@ -14,10 +14,11 @@ use mir.Val.{boolByte}
 use Rattle.listing.specs.Limits.{mostPorts, mostLegs}
 use Rattle.listing.proofs.Numbers.{either, test}
 use Rattle.text_numbers.proofs.Inverse.{none-some}
+use Rattle.plans.specs.declared.Plan.{Plan}
 use Rattle.campaign_state.specs.declared.State.{State}
 use Rattle.campaign_state.proofs.Places.{Sized}
 use Rattle.face_values.specs.Lines.{largest8}
-use Rattle.face_state.specs.States.{stateCount, runBits, runIn, bit, lastWords, stateWords, limits, within, word, wordsAt, stateAt, stateIn}
+use Rattle.face_state.specs.States.{portsPlace, legsPlace, startsPlace, runsPlace, panelPlace, legPlace, stepPlace, coveredPlace, openPlace, errorsPlace, standingPlace, endedPlace, stateCount, runBits, bit, lastWords, stateWords, limits, within, word, stateAt, stateIn}
 use Rattle.face_state.specs.Held.{heldIs, WordsFit}
 use Rattle.face_state.specs.declared.Held.{Held}
 use Rattle.face_state.proofs.Parts.{past, inside, run-at}
@@ -41,68 +42,65 @@ module _ (s : State) (z : Sized s) where
   abbrev two : List ℕ
   two = s .plan .ports ∷ s .plan .legs ∷ []
 
-  pub start-word : (at : ℕ) → 2 ≤ at → at < 18 → word (stateWords s) at ≡ word (s .plan .starts) (at - 2)
+  pub start-word : (at : ℕ) → startsPlace ≤ at → at < runsPlace → word (stateWords s) at ≡ word (s .plan .starts) (at - startsPlace)
   start-word at low high =
-      past two (s .plan .starts ++ (map runBits (s .plan .runs) ++ (s .panel ++ lastWords s))) 2 at 0 refl low
-      ∙ inside (s .plan .starts) (map runBits (s .plan .runs) ++ (s .panel ++ lastWords s)) mostLegs (at - 2) 0 (z .starts) (omega arith)
+      past two (s .plan .starts ++ (map runBits (s .plan .runs) ++ (s .panel ++ lastWords s))) startsPlace at 0 refl low
+      ∙ inside (s .plan .starts) (map runBits (s .plan .runs) ++ (s .panel ++ lastWords s)) mostLegs (at - startsPlace) 0 (z .starts) (omega arith)
 
-  -- from place 18 on
-  from-runs : (at : ℕ) → 18 ≤ at → word (stateWords s) at ≡ word (map runBits (s .plan .runs) ++ (s .panel ++ lastWords s)) (at - 18)
+  -- from the runs on
+  from-runs : (at : ℕ) → runsPlace ≤ at → word (stateWords s) at ≡ word (map runBits (s .plan .runs) ++ (s .panel ++ lastWords s)) (at - runsPlace)
   from-runs at low =
-      let less : at - 2 - 16 ≡ at - 18 = omega arith in
-      past two (s .plan .starts ++ (map runBits (s .plan .runs) ++ (s .panel ++ lastWords s))) 2 at 0 refl (omega arith)
-      ∙ past (s .plan .starts) (map runBits (s .plan .runs) ++ (s .panel ++ lastWords s)) mostLegs (at - 2) 0 (z .starts) (omega arith)
+      let less : at - startsPlace - mostLegs ≡ at - runsPlace = omega arith in
+      past two (s .plan .starts ++ (map runBits (s .plan .runs) ++ (s .panel ++ lastWords s))) startsPlace at 0 refl (omega arith)
+      ∙ past (s .plan .starts) (map runBits (s .plan .runs) ++ (s .panel ++ lastWords s)) mostLegs (at - startsPlace) 0 (z .starts) (omega arith)
       ∙ ap (word (map runBits (s .plan .runs) ++ (s .panel ++ lastWords s))) less
 
-  pub run-word : (at : ℕ) → 18 ≤ at → at < 34 → word (stateWords s) at ≡ runBits (getD (s .plan .runs) (at - 18) (pos 0))
+  pub run-word : (at : ℕ) → runsPlace ≤ at → at < panelPlace → word (stateWords s) at ≡ runBits (getD (s .plan .runs) (at - runsPlace) (pos 0))
   run-word at low high =
       from-runs at low
-      ∙ inside (map runBits (s .plan .runs)) (s .panel ++ lastWords s) mostLegs (at - 18) 0 bits-length (omega arith)
-      ∙ List·getD-map runBits (s .plan .runs) (at - 18) (pos 0)
+      ∙ inside (map runBits (s .plan .runs)) (s .panel ++ lastWords s) mostLegs (at - runsPlace) 0 bits-length (omega arith)
+      ∙ List·getD-map runBits (s .plan .runs) (at - runsPlace) (pos 0)
 
-  -- from place 34 on
-  from-panel : (at : ℕ) → 34 ≤ at → word (stateWords s) at ≡ word (s .panel ++ lastWords s) (at - 34)
+  -- from the panel on
+  from-panel : (at : ℕ) → panelPlace ≤ at → word (stateWords s) at ≡ word (s .panel ++ lastWords s) (at - panelPlace)
   from-panel at low =
-      let less : at - 18 - 16 ≡ at - 34 = omega arith in
+      let less : at - runsPlace - mostLegs ≡ at - panelPlace = omega arith in
       from-runs at (omega arith)
-      ∙ past (map runBits (s .plan .runs)) (s .panel ++ lastWords s) mostLegs (at - 18) 0 bits-length (omega arith)
+      ∙ past (map runBits (s .plan .runs)) (s .panel ++ lastWords s) mostLegs (at - runsPlace) 0 bits-length (omega arith)
       ∙ ap (word (s .panel ++ lastWords s)) less
 
-  pub panel-word : (at : ℕ) → 34 ≤ at → at < 54 → word (stateWords s) at ≡ word (s .panel) (at - 34)
-  panel-word at low high = from-panel at low ∙ inside (s .panel) (lastWords s) mostPorts (at - 34) 0 (z .panel) (omega arith)
+  pub panel-word : (at : ℕ) → panelPlace ≤ at → at < legPlace → word (stateWords s) at ≡ word (s .panel) (at - panelPlace)
+  panel-word at low high = from-panel at low ∙ inside (s .panel) (lastWords s) mostPorts (at - panelPlace) 0 (z .panel) (omega arith)
 
-  pub last-word : (at : ℕ) → 54 ≤ at → word (stateWords s) at ≡ word (lastWords s) (at - 54)
+  pub last-word : (at : ℕ) → legPlace ≤ at → word (stateWords s) at ≡ word (lastWords s) (at - legPlace)
   last-word at low =
-      let less : at - 34 - 20 ≡ at - 54 = omega arith in
-      from-panel at (omega arith) ∙ past (s .panel) (lastWords s) mostPorts (at - 34) 0 (z .panel) (omega arith) ∙ ap (word (lastWords s)) less
+      let less : at - panelPlace - mostPorts ≡ at - legPlace = omega arith in
+      from-panel at (omega arith) ∙ past (s .panel) (lastWords s) mostPorts (at - panelPlace) 0 (z .panel) (omega arith) ∙ ap (word (lastWords s)) less
 
 -- ---- the fields of words
 
--- the state that the code makes of its parts
-pub state-of : (ws : List ℕ) {starts : List ℕ} {runs : List ℤ} {panel : List ℕ}
-    → starts ≡ wordsAt ws 2 mostLegs → runs ≡ map runIn (wordsAt ws 18 mostLegs) → panel ≡ wordsAt ws 34 mostPorts
-    → record {
-      plan = record { ports = word ws 0; legs = word ws 1; starts = starts; runs = runs };
-      panel = panel;
-      leg = word ws 54;
-      step = word ws 55;
-      covered = word ws 56;
-      opened = word ws 57;
-      errors = word ws 58;
-      standing = eqb (word ws 59) 1;
-      ended = eqb (word ws 60) 1;
-    } ≡ stateAt ws
-state-of ws a b c = λ i. record {
-  plan = record { ports = word ws 0; legs = word ws 1; starts = a i; runs = b i };
-  panel = c i;
-  leg = word ws 54;
-  step = word ws 55;
-  covered = word ws 56;
-  opened = word ws 57;
-  errors = word ws 58;
-  standing = eqb (word ws 59) 1;
-  ended = eqb (word ws 60) 1;
-}
+module _ (ws : List ℕ) where
+  -- the plan that the code makes of its legs
+  pub plan-of : {starts : List ℕ} {runs : List ℤ} → starts ≡ stateAt ws .plan .starts → runs ≡ stateAt ws .plan .runs
+      → record { ports = word ws portsPlace; legs = word ws legsPlace; starts = starts; runs = runs } ≡ stateAt ws .plan
+  plan-of a b = λ i. record { ports = word ws portsPlace; legs = word ws legsPlace; starts = a i; runs = b i }
+
+  -- the state that it makes of plan and panel
+  abbrev stateWith : Plan → List ℕ → State
+  stateWith plan panel = record {
+    plan = plan;
+    panel = panel;
+    leg = word ws legPlace;
+    step = word ws stepPlace;
+    covered = word ws coveredPlace;
+    opened = word ws openPlace;
+    errors = word ws errorsPlace;
+    standing = eqb (word ws standingPlace) 1;
+    ended = eqb (word ws endedPlace) 1;
+  }
+
+  pub state-of : {plan : Plan} {panel : List ℕ} → plan ≡ stateAt ws .plan → panel ≡ stateAt ws .panel → stateWith plan panel ≡ stateAt ws
+  state-of a b = λ i. stateWith (a i) (b i)
 
 -- ---- words within the limits
 
@@ -111,13 +109,13 @@ module _ (ws : List ℕ) (e : within ws limits ≡ true) where
   pub words-fit : WordsFit ws
   words-fit = record {
     many = within-length ws limits e;
-    ports = within-at ws limits e 0 (omega arith);
-    legs = within-at ws limits e 1 (omega arith);
+    ports = within-at ws limits e portsPlace (omega arith);
+    legs = within-at ws limits e legsPlace (omega arith);
     panel = λ i h.
-        let a = within-at ws limits e (34 + i) (omega arith) in
-        omega (arith, run-at (take 34 limits) (drop 55 limits) 34 21 largest8 (34 + i) refl (omega arith) (omega arith));
-    leg = within-at ws limits e 54 (omega arith);
-    errors = within-at ws limits e 58 (omega arith);
+        let a = within-at ws limits e (panelPlace + i) (omega arith) in
+        omega (arith, run-at (take panelPlace limits) (drop stepPlace limits) panelPlace 21 largest8 (panelPlace + i) refl (omega arith) (omega arith));
+    leg = within-at ws limits e legPlace (omega arith);
+    errors = within-at ws limits e errorsPlace (omega arith);
   }
 
   -- the state that they are

@@ -9,7 +9,7 @@ use lib.ListN.{length}
 use Rattle.listing.specs.Limits.{mostPorts}
 use Rattle.campaign_state.specs.declared.State.{State}
 use Rattle.face_values.specs.Lines.{largest8}
-use Rattle.face_state.specs.States.{stateCount, largest32, word}
+use Rattle.face_state.specs.States.{portsPlace, legsPlace, panelPlace, legPlace, errorsPlace, stateCount, largest32, word}
 use Rattle.face_state.specs.declared.Held.{Held}
 
 -- the state, if the words are one
@@ -19,8 +19,8 @@ heldIs h = cond (h .fit) (some (h .state)) none
 -- as many words as a state has, and in each that goes into a smaller field a number that this holds
 pub record WordsFit (ws : List ℕ) : Type 0 where
   pub many : length ws ≡ stateCount
-  pub ports : word ws 0 ≤ largest8
-  pub legs : word ws 1 ≤ largest8
-  pub panel : (i : ℕ) → i < mostPorts → word ws (34 + i) ≤ largest8
-  pub leg : word ws 54 ≤ largest8
-  pub errors : word ws 58 ≤ largest32
+  pub ports : word ws portsPlace ≤ largest8
+  pub legs : word ws legsPlace ≤ largest8
+  pub panel : (i : ℕ) → i < mostPorts → word ws (panelPlace + i) ≤ largest8
+  pub leg : word ws legPlace ≤ largest8
+  pub errors : word ws errorsPlace ≤ largest32

@@ -1,6 +1,6 @@
 -- The state of a campaign in words, each field at its place, and the state that words are ('The state of a campaign', include/jidrofex.h).
 -- Assumes nothing.
-use Prim.Native.Nat.{ℕ, _-_}
+use Prim.Native.Nat.{ℕ, _+_, _-_}
 use mathlib.Core.Bool.{Bool, true, false, cond, _&&_}
 use mathlib.Core.List.{List, [], _∷_, _++_, map}
 use mathlib.Core.Option.{Option, none, some}
@@ -11,9 +11,52 @@ use Rattle.listing.specs.Limits.{mostPorts, mostLegs, largest64}
 use Rattle.campaign_state.specs.declared.State.{State}
 use Rattle.face_values.specs.Lines.{largest8}
 
--- JIDROFEX_STATE_WORDS
+-- ---- the places: JIDROFEX_STATE_PORTS, JIDROFEX_STATE_LEGS, .. JIDROFEX_STATE_ENDED
+
+abbrev pub portsPlace : ℕ
+portsPlace = 0
+
+abbrev pub legsPlace : ℕ
+legsPlace = 1
+
+abbrev pub startsPlace : ℕ
+startsPlace = 2
+
+abbrev pub runsPlace : ℕ
+runsPlace = startsPlace + mostLegs
+
+abbrev pub panelPlace : ℕ
+panelPlace = runsPlace + mostLegs
+
+abbrev pub legPlace : ℕ
+legPlace = panelPlace + mostPorts
+
+abbrev pub stepPlace : ℕ
+stepPlace = legPlace + 1
+
+abbrev pub coveredPlace : ℕ
+coveredPlace = legPlace + 2
+
+abbrev pub openPlace : ℕ
+openPlace = legPlace + 3
+
+abbrev pub errorsPlace : ℕ
+errorsPlace = legPlace + 4
+
+abbrev pub standingPlace : ℕ
+standingPlace = legPlace + 5
+
+abbrev pub endedPlace : ℕ
+endedPlace = legPlace + 6
+
+-- the words from the leg on, and JIDROFEX_STATE_WORDS
+abbrev pub lastCount : ℕ
+lastCount = 7
+
 abbrev pub stateCount : ℕ
-stateCount = 61
+stateCount = legPlace + lastCount
+
+-- ---- what a field can hold
 
 -- the largest number of 32 bits, which the errors are held in
 abbrev pub largest32 : ℕ
@@ -27,8 +70,11 @@ runBits (pos n) = n
 runBits (negsuc n) = largest64 - n
 
 -- the run of these bits: from 2^63 on it is negative
+abbrev pub firstBack : ℕ
+firstBack = 9223372036854775808
+
 unfoldable pub runIn : ℕ → ℤ
-runIn w = cond (ltb w 9223372036854775808) (pos w) (negsuc (largest64 - w))
+runIn w = cond (ltb w firstBack) (pos w) (negsuc (largest64 - w))
 
 -- '1 while a mark stands, else 0'
 abbrev pub bit : Bool → ℕ
@@ -70,15 +116,20 @@ wordsAt ws at n = take n (drop at ws)
 -- each field by its place
 abbrev pub stateAt : List ℕ → State
 stateAt ws = record {
-  plan = record { ports = word ws 0; legs = word ws 1; starts = wordsAt ws 2 mostLegs; runs = map runIn (wordsAt ws 18 mostLegs) };
-  panel = wordsAt ws 34 mostPorts;
-  leg = word ws 54;
-  step = word ws 55;
-  covered = word ws 56;
-  opened = word ws 57;
-  errors = word ws 58;
-  standing = eqb (word ws 59) 1;
-  ended = eqb (word ws 60) 1;
+  plan = record {
+    ports = word ws portsPlace;
+    legs = word ws legsPlace;
+    starts = wordsAt ws startsPlace mostLegs;
+    runs = map runIn (wordsAt ws runsPlace mostLegs);
+  };
+  panel = wordsAt ws panelPlace mostPorts;
+  leg = word ws legPlace;
+  step = word ws stepPlace;
+  covered = word ws coveredPlace;
+  opened = word ws openPlace;
+  errors = word ws errorsPlace;
+  standing = eqb (word ws standingPlace) 1;
+  ended = eqb (word ws endedPlace) 1;
 }
 
 -- 'A slice of another length, or a word that its field cannot hold, is an unfit state'

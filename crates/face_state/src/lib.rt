@@ -1,14 +1,28 @@
 // The state of a campaign in words: each field at its place.
+pub mod places;
+
+use crate::places::COVERED;
+use crate::places::ENDED;
+use crate::places::ERRORS;
+use crate::places::FIRST_BACK;
+use crate::places::LARGEST32;
+use crate::places::LEG;
+use crate::places::LEGS;
+use crate::places::OPEN;
+use crate::places::PANEL;
+use crate::places::PORTS;
+use crate::places::RUNS;
+use crate::places::STANDING;
+use crate::places::STARTS;
+use crate::places::STATE_WORDS;
+use crate::places::STEP;
 use campaign_state::State;
 use plan_rules::Plan;
 use words::signs::by_sign;
 ghost use mathlib.Core.Path.{_≡_};
-ghost use mathlib.Core.Bool.{false};
-ghost use mathlib.Core.List.{map};
 ghost use Prim.Native.Nat.{_<_};
 ghost use lib.ListN.{length, getD};
-ghost use Rattle.listing.specs.Limits.{mostPorts, mostLegs};
-ghost use Rattle.face_state.specs.States.{stateCount, runBits, runIn, lastWords, stateWords, limits, within, word, wordsAt, stateAt, stateIn};
+ghost use Rattle.face_state.specs.States.{stateCount, lastCount, runBits, runIn, lastWords, stateWords, limits, within, word, stateAt, stateIn};
 ghost use Rattle.face_state.specs.Held.{heldIs, WordsFit};
 
 // Whether words are a state, and that state; all zeros if they are none.
@@ -24,20 +38,20 @@ fn limit_of(at: usize) -> u64
     requires { ⌜ at < stateCount ⌝ }
     ensures { λ r. ⌜ r ≡ getD limits at 0 ⌝ }
 {
-    if at < 2 {
-        return 255;
+    if at < STARTS {
+        return LARGEST8;
     }
-    if at < 34 {
-        return 18446744073709551615;
+    if at < PANEL {
+        return LARGEST;
     }
-    if at < 55 {
-        return 255;
+    if at < STEP {
+        return LARGEST8;
     }
-    if at < 58 {
-        return 18446744073709551615;
+    if at < ERRORS {
+        return LARGEST;
     }
-    if at < 59 {
-        return 4294967295;
+    if at < STANDING {
+        return LARGEST32;
     }
     1
 }
@@ -46,11 +60,11 @@ fn limit_of(at: usize) -> u64
 fn words_fit(words: &[u64]) -> bool
     ensures { λ r. ⌜ r ≡ within (now (words .entry)) limits ⌝ }
 {
-    if words.len() != 61 {
+    if words.len() != STATE_WORDS {
         return false;
     }
     let mut at: usize = 0;
-    while at < 61 {
+    while at < STATE_WORDS {
         if limit_of(at) < words[at] {
             return false;
         }
@@ -63,49 +77,42 @@ fn words_fit(words: &[u64]) -> bool
 fn run_in(w: u64) -> i64
     ensures { λ r. ⌜ r ≡ runIn w ⌝ }
 {
-    if w < 9223372036854775808 {
+    if w < FIRST_BACK {
         return w as i64;
     }
-    -1 - (18446744073709551615 - w) as i64
+    -1 - (LARGEST - w) as i64
 }
 
-// The starts of the legs.
-fn starts_in(words: &[u64]) -> [u64; 16]
+// The plan: its legs' starts and runs, one leg after the other.
+fn plan_in(words: &[u64]) -> Plan
     requires { ⌜ WordsFit (now words) ⌝ }
-    ensures { λ r. ⌜ r ≡ wordsAt (now (words .entry)) 2 mostLegs ⌝ }
+    ensures { λ r. ⌜ r ≡ stateAt (now (words .entry)) .plan ⌝ }
 {
-    let mut starts = [0u64; 16];
+    let mut starts = [0u64; LEG_PLACES];
+    let mut runs = [0i64; LEG_PLACES];
     let mut i: usize = 0;
-    while i < 16 {
-        starts[i] = words[2 + i];
+    while i < LEG_PLACES {
+        starts[i] = words[STARTS + i];
+        runs[i] = run_in(words[RUNS + i]);
         i += 1;
     }
-    starts
-}
-
-// The runs of the legs.
-fn runs_in(words: &[u64]) -> [i64; 16]
-    requires { ⌜ WordsFit (now words) ⌝ }
-    ensures { λ r. ⌜ r ≡ map runIn (wordsAt (now (words .entry)) 18 mostLegs) ⌝ }
-{
-    let mut runs = [0i64; 16];
-    let mut i: usize = 0;
-    while i < 16 {
-        runs[i] = run_in(words[18 + i]);
-        i += 1;
+    Plan {
+        ports: words[PORTS] as u8,
+        legs: words[LEGS] as u8,
+        starts: starts,
+        runs: runs,
     }
-    runs
 }
 
 // The panel.
-fn panel_in(words: &[u64]) -> [u8; 20]
+fn panel_in(words: &[u64]) -> [u8; LONGEST]
     requires { ⌜ WordsFit (now words) ⌝ }
-    ensures { λ r. ⌜ r ≡ wordsAt (now (words .entry)) 34 mostPorts ⌝ }
+    ensures { λ r. ⌜ r ≡ stateAt (now (words .entry)) .panel ⌝ }
 {
-    let mut panel = [0u8; 20];
+    let mut panel = [0u8; LONGEST];
     let mut i: usize = 0;
-    while i < 20 {
-        panel[i] = words[34 + i] as u8;
+    while i < LONGEST {
+        panel[i] = words[PANEL + i] as u8;
         i += 1;
     }
     panel
@@ -117,45 +124,15 @@ fn state_at(words: &[u64]) -> State
     ensures { λ r. ⌜ r ≡ stateAt (now (words .entry)) ⌝ }
 {
     State {
-        plan: Plan {
-            ports: words[0] as u8,
-            legs: words[1] as u8,
-            starts: starts_in(words),
-            runs: runs_in(words),
-        },
+        plan: plan_in(words),
         panel: panel_in(words),
-        leg: words[54] as u8,
-        step: words[55],
-        covered: words[56],
-        opened: words[57],
-        errors: words[58] as u32,
-        standing: words[59] == 1,
-        ended: words[60] == 1,
-    }
-}
-
-// No state: all zeros.
-fn none() -> Held
-    ensures { λ r. ⌜ r .fit ≡ false ⌝ }
-{
-    Held {
-        fit: false,
-        state: State {
-            plan: Plan {
-                ports: 0,
-                legs: 0,
-                starts: [0u64; 16],
-                runs: [0i64; 16],
-            },
-            panel: [0u8; 20],
-            leg: 0,
-            step: 0,
-            covered: 0,
-            opened: 0,
-            errors: 0,
-            standing: false,
-            ended: false,
-        },
+        leg: words[LEG] as u8,
+        step: words[STEP],
+        covered: words[COVERED],
+        opened: words[OPEN],
+        errors: words[ERRORS] as u32,
+        standing: words[STANDING] == 1,
+        ended: words[ENDED] == 1,
     }
 }
 
@@ -169,7 +146,11 @@ pub fn state_in(words: &[u64]) -> Held
             state: state_at(words),
         };
     }
-    none()
+    let zeros = [0u64; STATE_WORDS];
+    Held {
+        fit: false,
+        state: state_at(&zeros),
+    }
 }
 
 // ---- a state in words
@@ -180,14 +161,14 @@ fn run_bits(run: i64) -> u64
 {
     let by = by_sign(run);
     if by.back {
-        return 18446744073709551615 - (by.magnitude - 1);
+        return LARGEST - (by.magnitude - 1);
     }
     by.magnitude
 }
 
 // The words from the leg on: leg, step, covered, open, errors, standing, ended.
 fn last_word(s: State, i: usize) -> u64
-    requires { ⌜ i < 7 ⌝ }
+    requires { ⌜ i < lastCount ⌝ }
     ensures { λ r. ⌜ r ≡ word (lastWords s) i ⌝ }
 {
     match i {
@@ -207,25 +188,25 @@ fn word_of(s: State, at: usize) -> u64
     ensures { λ r. ⌜ r ≡ word (stateWords s) at ⌝ }
 {
     let plan = s.plan;
-    if at < 1 {
+    if at < LEGS {
         return plan.ports as u64;
     }
-    if at < 2 {
+    if at < STARTS {
         return plan.legs as u64;
     }
-    if at < 18 {
+    if at < RUNS {
         let starts = plan.starts;
-        return starts[at - 2];
+        return starts[at - STARTS];
     }
-    if at < 34 {
+    if at < PANEL {
         let runs = plan.runs;
-        return run_bits(runs[at - 18]);
+        return run_bits(runs[at - RUNS]);
     }
-    if at < 54 {
+    if at < LEG {
         let panel = s.panel;
-        return panel[at - 34] as u64;
+        return panel[at - PANEL] as u64;
     }
-    last_word(s, at - 54)
+    last_word(s, at - LEG)
 }
 
 // A state put into the words that it takes.
@@ -234,7 +215,7 @@ pub fn state_out(s: State, words: &mut [u64])
     ensures { λ _. ⌜ now (words .exit) ≡ stateWords s ⌝ }
 {
     let mut at: usize = 0;
-    while at < 61 {
+    while at < STATE_WORDS {
         words[at] = word_of(s, at);
         at += 1;
     }

@@ -10,9 +10,13 @@ abbrev pub numberTold : {A : Type 0} → Told A → ℕ
 numberTold (accepted a) = 0
 numberTold (refused k s) = k
 
+-- JIDROFEX_ANSWER_WORDS
+abbrev pub answerCount : ℕ
+answerCount = 5
+
 -- five words: these, 'then zeros'
 abbrev pub five : List ℕ → List ℕ
-five l = padded 5 0 l
+five l = padded answerCount 0 l
 
 -- 'accepted: the values that the call names, then zeros; refused: the place, then zeros'
 abbrev pub wordsTold : {A : Type 0} → (A → List ℕ) → Told A → List ℕ

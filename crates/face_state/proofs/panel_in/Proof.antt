@@ -7,16 +7,16 @@ use native.Mathlib.Omega.{arith}
 use lib.ListN.{length}
 use borrow.Author.Needs.{needs}
 use Rattle.listing.specs.Limits.{mostPorts}
-use Rattle.face_state.specs.States.{wordsAt}
+use Rattle.face_state.specs.States.{panelPlace, stateCount, wordsAt}
 use Rattle.face_state.proofs.Parts.{Filled, part-stored, part-all}
 use Rattle.face_state.proofs.panel_in.Statement.{statement}
 use Rattle.face_state.proofs.panel_in.Tie as tie
 
 abbrev Inv-loop : tie.InvT-loop
-Inv-loop words panel₀ i₀ panel i = (i ≤ 20) × (length words ≡ 61) × (length panel ≡ 20) × Filled (λ (w : ℕ). w) words 34 panel i
+Inv-loop words panel₀ i₀ panel i = (i ≤ mostPorts) × (length words ≡ stateCount) × (length panel ≡ mostPorts) × Filled (λ (w : ℕ). w) words panelPlace panel i
 
 abbrev μ-loop : tie.MeasureT-loop
-μ-loop words panel₀ i₀ panel i = 20 - i
+μ-loop words panel₀ i₀ panel i = mostPorts - i
 
 loop-holds : tie.Need-loop-holds Inv-loop μ-loop
 loop-holds c = (search needs, c .pre .many, refl, refl)
@@ -30,14 +30,14 @@ loop-again c =
       search needs,
       l .loop .inv .1,
       search needs,
-      part-stored (λ (w : ℕ). w) (l .before .args .words .now) 34 (l .loop .panel) (l .loop .i) _ (omega arith) (omega arith) (l .loop .inv .3) refl,
+      part-stored (λ (w : ℕ). w) (l .before .args .words .now) panelPlace (l .loop .panel) (l .loop .i) _ (omega arith) (omega arith) (l .loop .inv .3) refl,
     )
 
 returns : tie.Need-returns Inv-loop μ-loop
 returns c =
     let l = c .before in
-    part-all (λ (w : ℕ). w) (l .before .args .words .now) 34 (l .loop .panel) (l .loop .i) mostPorts (l .loop .inv .3) (omega arith) (omega arith)
-    ∙ map-id (wordsAt (l .before .args .words .now) 34 mostPorts)
+    part-all (λ (w : ℕ). w) (l .before .args .words .now) panelPlace (l .loop .panel) (l .loop .i) mostPorts (l .loop .inv .3) (omega arith) (omega arith)
+    ∙ map-id (wordsAt (l .before .args .words .now) panelPlace mostPorts)
 
 pub panel-in-spec : {M : Type 1} → statement M
 panel-in-spec =

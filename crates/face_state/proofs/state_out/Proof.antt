@@ -14,10 +14,10 @@ use Rattle.face_state.proofs.state_out.Statement.{statement}
 use Rattle.face_state.proofs.state_out.Tie as tie
 
 abbrev Inv-loop : tie.InvT-loop
-Inv-loop s words₀ at₀ words at = (at ≤ 61) × (length words ≡ 61) × (take at words ≡ take at (stateWords s))
+Inv-loop s words₀ at₀ words at = (at ≤ stateCount) × (length words ≡ stateCount) × (take at words ≡ take at (stateWords s))
 
 abbrev μ-loop : tie.MeasureT-loop
-μ-loop s words₀ at₀ words at = 61 - at
+μ-loop s words₀ at₀ words at = stateCount - at
 
 sized : (c : tie.Start Inv-loop μ-loop) → Sized (c .args .s)
 sized c = record { starts = search needs; runs = search needs; panel = search needs }

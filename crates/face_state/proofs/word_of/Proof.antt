@@ -9,7 +9,7 @@ use mir.Syntax.{w64}
 use mir.ValLaws.{toZ-ofZ}
 use borrow.Author.Needs.{needs}
 use Rattle.campaign_state.proofs.Places.{Sized}
-use Rattle.face_state.specs.States.{runBits, stateWords, word}
+use Rattle.face_state.specs.States.{runsPlace, runBits, stateWords, word}
 use Rattle.face_state.proofs.StateWords.{start-word, run-word, panel-word, last-word}
 use Rattle.face_state.proofs.word_of.Statement.{statement}
 use Rattle.face_state.proofs.word_of.Tie as tie
@@ -39,7 +39,7 @@ returns-4 : tie.Need-returns-4
 returns-4 c =
     let t = c .before .before .before in
     let s = t .before .before .before .before .before in
-    let run = getD (s .args .s .plan .runs) (s .args .at - 18) (pos 0) in
+    let run = getD (s .args .s .plan .runs) (s .args .at - runsPlace) (pos 0) in
     c .run-bits .ensures
     ∙ ap runBits (toZ-ofZ w64 run (search needs))
     ∙ sym (run-word (s .args .s) (sized s) (s .args .at) (t .before .if3 .left) (t .if4 .taken))

@@ -6,16 +6,16 @@ use native.Mathlib.Omega.{arith}
 use lib.ListN.{getD}
 use borrow.Author.Count.{below-more}
 use borrow.Author.Needs.{needs}
-use Rattle.face_state.specs.States.{limits}
+use Rattle.face_state.specs.States.{stateCount, limits}
 use Rattle.face_state.proofs.Within.{all-within, not-as-many, one-above}
 use Rattle.face_state.proofs.words_fit.Statement.{statement}
 use Rattle.face_state.proofs.words_fit.Tie as tie
 
 abbrev Inv-loop : tie.InvT-loop
-Inv-loop words at₀ at = (at ≤ 61) × ((k : ℕ) → k < at → getD words k 0 ≤ getD limits k 0)
+Inv-loop words at₀ at = (at ≤ stateCount) × ((k : ℕ) → k < at → getD words k 0 ≤ getD limits k 0)
 
 abbrev μ-loop : tie.MeasureT-loop
-μ-loop words at₀ at = 61 - at
+μ-loop words at₀ at = stateCount - at
 
 returns : tie.Need-returns Inv-loop μ-loop
 returns c = sym (not-as-many (c .before .before .args .words .now) limits (c .if1 .taken))
