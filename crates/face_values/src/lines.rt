@@ -7,9 +7,9 @@ use words::Move;
 use words::Order;
 ghost use mathlib.Core.Path.{_≡_};
 ghost use mathlib.Core.List.{[], _∷_, _++_};
-ghost use Rattle.words.specs.Meaning.{moveOf};
+ghost use Rattle.words.specs.Meaning.{orderOf, moveOf};
 ghost use Rattle.face_values.specs.Answers.{five};
-ghost use Rattle.face_values.specs.Lines.{jackIn, lineIn, lineWords, moveWords};
+ghost use Rattle.face_values.specs.Lines.{jackIn, lineIn, orderWords, lineWords, moveWords};
 
 // JIDROFEX_LINE_WORDS
 pub const LINE_WORDS: usize = 4;
@@ -60,16 +60,24 @@ pub fn line_in(words: &[u64; LINE_WORDS]) -> Line
     Line::Movement(Order::Swap(Jack(0), Jack(0)))
 }
 
+// A movement's words and one word after them.
+fn give_movement(o: Order, last: u64, answer: &mut [u64; ANSWER_WORDS]) -> u8
+    ensures number { λ r. ⌜ r ≡ 0 ⌝ }
+    ensures words { λ _. ⌜ now (answer .exit) ≡ five (orderWords (orderOf o) ++ (last ∷ [])) ⌝ }
+{
+    match o {
+        Order::Swap(a, b) => give(answer, SWAP, a.0 as u64, b.0 as u64, 0, last),
+        Order::Turn(a, b, c) => give(answer, TURN, a.0 as u64, b.0 as u64, c.0 as u64, last),
+    }
+}
+
 // A line's words and one word after them.
 pub fn give_line(line: Line, last: u64, answer: &mut [u64; ANSWER_WORDS]) -> u8
     ensures number { λ r. ⌜ r ≡ 0 ⌝ }
     ensures words { λ _. ⌜ now (answer .exit) ≡ five (lineWords line ++ (last ∷ [])) ⌝ }
 {
     match line {
-        Line::Movement(o) => match o {
-            Order::Swap(a, b) => give(answer, SWAP, a.0 as u64, b.0 as u64, 0, last),
-            Order::Turn(a, b, c) => give(answer, TURN, a.0 as u64, b.0 as u64, c.0 as u64, last),
-        },
+        Line::Movement(o) => give_movement(o, last, answer),
         Line::Mark(number, rank) => give(answer, MARK, number, rank, 0, last),
         Line::End(marks) => give(answer, END, marks, 0, 0, last),
     }
@@ -82,14 +90,16 @@ pub fn give_move(m: Move, answer: &mut [u64; ANSWER_WORDS]) -> u8
 {
     match m {
         Move::Nothing => give(answer, NOTHING, 0, 0, 0, 0),
-        Move::One(o) => give_line(Line::Movement(o), 0, answer),
-        Move::Two(a, b, c, d) => give(
-            answer,
-            TWO_SWAPS,
-            a.0 as u64,
-            b.0 as u64,
-            c.0 as u64,
-            d.0 as u64,
-        ),
+        Move::One(o) => give_movement(o, 0, answer),
+        Move::Two(a, b, c, d) => {
+            give(
+                answer,
+                TWO_SWAPS,
+                a.0 as u64,
+                b.0 as u64,
+                c.0 as u64,
+                d.0 as u64,
+            )
+        }
     }
 }
