@@ -14,7 +14,7 @@ use mir.Val.{boolByte}
 use Rattle.listing.specs.Limits.{mostPorts, mostLegs}
 use Rattle.listing.proofs.Numbers.{either, test}
 use Rattle.text_numbers.proofs.Inverse.{none-some}
-use Rattle.plans.specs.declared.Plan.{Plan}
+use Rattle.plan_rules.specs.declared.Plan.{Plan}
 use Rattle.campaign_state.specs.declared.State.{State}
 use Rattle.campaign_state.proofs.Places.{Sized}
 use Rattle.face_values.specs.Lines.{largest8}
