@@ -12,7 +12,7 @@ use Rattle.words.specs.Shape.{lineFits}
 use Rattle.words.specs.declared.Line.{Line}
 use Rattle.words.specs.declared.Line.the-variants.{Movement, Mark, End}
 use Rattle.line_format.specs.Campaign.{OfCampaign}
-use Rattle.panel.specs.Calls.{after}
+use Rattle.panel.specs.Calls.{afterLine}
 
 -- at a mark the panel is the pattern of the rank in that line
 abbrev pub MeetsAt : ℕ → Line → List ℕ → Type 0
@@ -25,7 +25,7 @@ pub record Shows (n : ℕ) (l : Line) (q q' : List ℕ) : Type 0 where
   pub ours : OfCampaign mostPorts largest64 (count mostPorts) l
   pub fits : lineFits n l ≡ true
   pub meets : MeetsAt n l q
-  pub leads : after l q ≡ q'
+  pub leads : afterLine l q ≡ q'
 
 -- by the answer: without a line the panel stays
 abbrev pub Shown : ℕ → Option Line → List ℕ → List ℕ → Type 0

@@ -21,8 +21,7 @@ use Rattle.words.proofs.Once.{order-there}
 use Rattle.pattern_check.proofs.Accepted.{Panel, panel-accepted}
 use Rattle.line_format.specs.Format.{lineText}
 use Rattle.line_format.proofs.Inverse.{read-written, campaign-proper}
-use Rattle.panel.specs.Calls as panel
-use Rattle.panel.specs.Calls.{carryOf, carryBytes}
+use Rattle.panel.specs.Calls.{afterLine, carryOf, carryBytes}
 use Rattle.panel.proofs.Accepted.{carry-accepted}
 use Rattle.promise.specs.Plan.{Leg}
 use Rattle.promise.specs.Campaign.{Setting, request, report, Answer, movement, mark, theEnd, taken, refusal, first}
@@ -60,7 +59,7 @@ module _ (n : ℕ) (few : 2 ≤ n) (many : n ≤ mostPorts) where
         ∙ ap (λ k. accepted (l, k)) (zero-add (length (lineText l)))
 
     -- which the panel takes
-    carried : (accepted tt ≡ carryOf mostPorts l q) × (panel.after l q ≡ carryBytes mostPorts l q)
+    carried : (accepted tt ≡ carryOf mostPorts l q) × (afterLine l q ≡ carryBytes mostPorts l q)
     carried =
         let long : length q ≡ n = P .long in
         let is : Panel mostPorts q = record { low = omega arith; high = omega arith; is = rw long P } in

@@ -21,7 +21,7 @@ use Rattle.patterns.specs.Calls.{ranked, countOf, rankOf, unrankOf, unrankBytes
 use Rattle.panel.specs.Calls.{onPanel, portOf, jackOf, carryOf, carryBytes}
 use Rattle.panel.proofs.Accepted.{panel-refused}
 use Rattle.panel.proofs.Refusals.{refusals}
-use Rattle.text_keys.specs.Parts.{newline, cut, after}
+use Rattle.text_keys.specs.Parts.{newline, cut, afterKey}
 use Rattle.line_format.specs.Format.{Kind, swapping, turning, marking, ending, key, commas, lineOf, lineText}
 use Rattle.line_format.specs.Calls.{roomOf, writeOf, writeBytes}
 use Rattle.words.specs.Shape.{lineFits}
@@ -95,10 +95,10 @@ keyed-numbers k (some v) other h =
 line-numbers : (t : List ℕ) → Refuses ofLine (lineIn largest64 mostPorts t)
 unfolding lineIn
 line-numbers t =
-    keyed-numbers swapping (after (key swapping) t) _
-    (keyed-numbers turning (after (key turning) t) _
-    (keyed-numbers marking (after (key marking) t) _
-    (keyed-numbers ending (after (key ending) t) _
+    keyed-numbers swapping (afterKey (key swapping) t) _
+    (keyed-numbers turning (afterKey (key turning) t) _
+    (keyed-numbers marking (afterKey (key marking) t) _
+    (keyed-numbers ending (afterKey (key ending) t) _
     (from-refused ofLine 7 nowhere (inr (inl refl))))))
 
 read-numbers : (t : List ℕ) (place : ℕ) → Refuses ofLine (readOf largest64 mostPorts t place)

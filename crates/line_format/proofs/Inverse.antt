@@ -18,7 +18,7 @@ use Rattle.words.specs.declared.Order.the-variants.{Swap, Turn}
 use Rattle.words.specs.declared.Line.{Line}
 use Rattle.words.specs.declared.Line.the-variants.{Movement, Mark, End}
 use Rattle.words.proofs.Shape.{fits-passes, passes-fits}
-use Rattle.text_keys.specs.Parts.{newline, firstOf, begins, cut, after}
+use Rattle.text_keys.specs.Parts.{newline, firstOf, begins, cut, afterKey}
 use Rattle.text_keys.proofs.Cuts.{first-append, cut-joined, cut-parts}
 use Rattle.text_keys.proofs.Keys.{key-after}
 use Rattle.line_format.specs.Format.{Kind, swapping, turning, marking, ending, key, commas, Numbers, AllUpTo, listed}
@@ -116,10 +116,10 @@ module _ (most jacks : ℕ) where
     told : numbersTold most jacks kind rest ≡ accepted l
 
   -- by this kind, or by another
-  by-key : (k : Kind) (t : List ℕ) (other : Told Line) (l : Line) → keyed most jacks k (after (key k) t) other ≡ accepted l → Keyed t l ⊎ (other ≡ accepted l)
-  by-key k t other l e = by (after (key k) t) refl e
+  by-key : (k : Kind) (t : List ℕ) (other : Told Line) (l : Line) → keyed most jacks k (afterKey (key k) t) other ≡ accepted l → Keyed t l ⊎ (other ≡ accepted l)
+  by-key k t other l e = by (afterKey (key k) t) refl e
     where
-      by : (o : Option (List ℕ)) → after (key k) t ≡ o → keyed most jacks k o other ≡ accepted l → Keyed t l ⊎ (other ≡ accepted l)
+      by : (o : Option (List ℕ)) → afterKey (key k) t ≡ o → keyed most jacks k o other ≡ accepted l → Keyed t l ⊎ (other ≡ accepted l)
       by none q e = inr e
       by (some v) q e = inl (record { kind = k; rest = v; whole = key-after (key k) t v q; told = e })
 

@@ -15,7 +15,7 @@ use Rattle.listing.proofs.Numbers.{either, test}
 use Rattle.words.specs.Told.{Told, accepted, refused, nowhere, then, need}
 use Rattle.words.specs.declared.Line.{Line}
 use Rattle.text_numbers.specs.Decimal.{numberUpTo}
-use Rattle.text_keys.specs.Parts.{newline, comma, firstOf, begins, after}
+use Rattle.text_keys.specs.Parts.{newline, comma, firstOf, begins, afterKey}
 use Rattle.text_keys.proofs.Cuts.{first-inside, to-the-end}
 use Rattle.line_format.specs.Format.{Kind, swapping, turning, marking, ending, key, commas, lineOf}
 use Rattle.line_format.specs.Reading.{numberBefore, numbersIn, fitting, numbersTold, keyed, lineIn, readOf}
@@ -136,11 +136,11 @@ module _ (most jacks : ℕ) where
   module _ (t : List ℕ) where
     -- this key
     keyed-here : (k : Kind) (other : Told Line) → true ≡ begins (key k) t
-        → numbersTold most jacks k (drop (length (key k)) t) ≡ keyed most jacks k (after (key k) t) other
+        → numbersTold most jacks k (drop (length (key k)) t) ≡ keyed most jacks k (afterKey (key k) t) other
     keyed-here k other e = rw (← e)
 
     -- another
-    keyed-other : (k : Kind) (other : Told Line) → false ≡ begins (key k) t → other ≡ keyed most jacks k (after (key k) t) other
+    keyed-other : (k : Kind) (other : Told Line) → false ≡ begins (key k) t → other ≡ keyed most jacks k (afterKey (key k) t) other
     keyed-other k other e = rw (← e)
 
     pub line-swap : true ≡ begins (key swapping) t → numbersTold most jacks swapping (drop 5 t) ≡ lineIn most jacks t

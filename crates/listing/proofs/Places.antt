@@ -11,7 +11,7 @@ use lib.ListN.{length, getD, length-append, length-map, length-reverse, List·ge
 use lib.Seq.{getD-append-seam, getD-append-add}
 use Rattle.listing.specs.Numbers.{Among, odd}
 use Rattle.listing.specs.Count.{count}
-use Rattle.listing.specs.Steps.{Way, byA, byB, shorter, step, stepA, stepB}
+use Rattle.listing.specs.Steps.{Letter, byA, byB, shorter, step, stepA, stepB}
 use Rattle.listing.specs.Listing.{joined, block, blocks, listing, at}
 use Rattle.listing.specs.Rank.{fromEnd, perBlock, inOdd, turned, place}
 use Rattle.listing.proofs.Numbers.{either, below?}
@@ -51,7 +51,7 @@ pub turned-below : (b : Bool) (m u : ℕ) → u < m → turned b m u < m
 turned-below true m u h = h
 turned-below false m u h = omega arith
 
-pub inOdd-below : (w : Way) (m s : ℕ) → s < count (shorter w (suc (suc m))) → inOdd w (suc (suc m)) s < perBlock (suc (suc m))
+pub inOdd-below : (w : Letter) (m s : ℕ) → s < count (shorter w (suc (suc m))) → inOdd w (suc (suc m)) s < perBlock (suc (suc m))
 inOdd-below byA m s h = omega arith
 inOdd-below byB m s h = omega arith
 
@@ -140,8 +140,8 @@ in-block m q u hq hu =
     (blocks-at n a b (suc m) q (turned (odd (suc q)) (length a + length b) u) hq (turned-below (odd (suc q)) (length a + length b) u hu′)
     ∙ (rw (ma, mb) at (joined-turned (map (stepA n (suc q)) a) (map (stepB n (suc q)) b) (odd (suc q)) u (rw (ma, mb) hu′))))
 
--- The rule of the list, place by place: the pattern made by the way w, with i, from the shorter one of rank s
-pub at-place : (w : Way) (m i s : ℕ) → Among (suc m) i → s < count (shorter w (suc (suc m)))
+-- The rule of the list, place by place: the pattern made by the letter w, with i, from the shorter one of rank s
+pub at-place : (w : Letter) (m i s : ℕ) → Among (suc m) i → s < count (shorter w (suc (suc m)))
     → at (suc (suc m)) (place w (suc (suc m)) i s) ≡ step w (suc (suc m)) i (at (shorter w (suc (suc m))) s)
 unfolding place at
 at-place w m zero s fits hs = absurd (omega arith)

@@ -11,7 +11,7 @@ use borrow.Author.Tests.{eq-eqb, ne-eqb}
 use Rattle.listing.specs.Numbers.{Among, before, odd}
 use Rattle.listing.specs.Pattern.{entry, Derangement}
 use Rattle.listing.specs.Count.{count}
-use Rattle.listing.specs.Steps.{Way, byA, byB, shorter, step}
+use Rattle.listing.specs.Steps.{Letter, byA, byB, shorter, step}
 use Rattle.listing.specs.Listing.{listing, at}
 use Rattle.listing.specs.Rank.{fromEnd, perBlock, inOdd, turned, place, rank}
 use Rattle.listing.proofs.Numbers.{either, below?}
@@ -23,9 +23,9 @@ use Rattle.listing.proofs.Places.{getD-reverse, turned-twice, turned-be
 
 -- ---- a rank, taken apart
 
--- r is the place of the pattern made by a way, with an i of 1 to n - 1, from the shorter one of rank s
+-- r is the place of the pattern made by a letter, with an i of 1 to n - 1, from the shorter one of rank s
 pub record Placed (m r : ℕ) : Type 0 where
-  pub by : Way
+  pub by : Letter
   pub i : ℕ
   pub s : ℕ
   pub fits : Among (suc m) i
@@ -66,7 +66,7 @@ placed m r h =
     (placed-in m i (turned (odd i) size (r % size)) (block-among m r h) (turned-below (odd i) size (r % size) below))
 
 -- such a place is a rank
-pub place-below : (w : Way) (m i s : ℕ) → Among (suc m) i → s < count (shorter w (suc (suc m))) → place w (suc (suc m)) i s < count (suc (suc m))
+pub place-below : (w : Letter) (m i s : ℕ) → Among (suc m) i → s < count (shorter w (suc (suc m))) → place w (suc (suc m)) i s < count (suc (suc m))
 unfolding place
 place-below w m zero s fits h = absurd (omega arith)
 place-below w m (suc q) s fits h =
@@ -77,7 +77,7 @@ place-below w m (suc q) s fits h =
 
 -- ---- the rank of the pattern that a step makes
 
-pub rank-step : (w : Way) (m i : ℕ) (t : List ℕ) → Among (suc m) i → Derangement (shorter w (suc (suc m))) t
+pub rank-step : (w : Letter) (m i : ℕ) (t : List ℕ) → Among (suc m) i → Derangement (shorter w (suc (suc m))) t
     → rank (suc (suc m)) (step w (suc (suc m)) i t) ≡ place w (suc (suc m)) i (rank (shorter w (suc (suc m))) t)
 unfolding rank
 rank-step byA m i t fits D =

@@ -9,12 +9,12 @@ use native.Mathlib.Omega.{arith}
 use Rattle.listing.specs.Numbers.{Among, odd}
 use Rattle.listing.specs.Pattern.{entry, Derangement}
 use Rattle.listing.specs.Count.{count}
-use Rattle.listing.specs.Steps.{Way, byA, byB, shorter, back, way}
+use Rattle.listing.specs.Steps.{Letter, byA, byB, shorter, back, letter}
 use Rattle.listing.specs.Rank.{fromEnd, perBlock, inOdd, turned, place, rank}
 use Rattle.listing.specs.Reading.{other, comesFirst, passed}
 use Rattle.listing.proofs.Numbers.{either, test}
 use Rattle.listing.proofs.Counts.{count-blocks}
-use Rattle.listing.proofs.Shorter.{end-fits, way-back}
+use Rattle.listing.proofs.Shorter.{end-fits, letter-back}
 use Rattle.listing.proofs.Places.{turned-below, inOdd-below}
 use Rattle.listing.proofs.Ranks.{rank-step, rank-below}
 
@@ -27,14 +27,14 @@ from-last : (k q c u : ℕ) → q < k → u < c → fromEnd (k * c) (q * c + u) 
 from-last k q c u h l = omega (arith, all-blocks k q c h)
 
 -- the place in a block, from its other end
-read-back : (w : Way) (m q s : ℕ) → s < count (shorter w (suc (suc m)))
+read-back : (w : Letter) (m q s : ℕ) → s < count (shorter w (suc (suc m)))
     → fromEnd (perBlock (suc (suc m))) (turned (odd (suc q)) (perBlock (suc (suc m))) (inOdd w (suc (suc m)) s))
     ≡ cond (comesFirst false w (suc q)) 0 (count (shorter (other w) (suc (suc m)))) + turned (comesFirst false w (suc q)) (count (shorter w (suc (suc m)))) s
 read-back byA m q s h = either (test (odd (suc q))) (λ o. rw o (omega arith)) (λ o. rw o (omega arith))
 read-back byB m q s h = either (test (odd (suc q))) (λ o. rw o (omega arith)) (λ o. rw o (omega arith))
 
 -- the place in the list read forward or backward: what is passed over, and the shorter pattern's place in its list
-pub place-read : (forward : Bool) (w : Way) (m i s : ℕ) → Among (suc m) i → s < count (shorter w (suc (suc m)))
+pub place-read : (forward : Bool) (w : Letter) (m i s : ℕ) → Among (suc m) i → s < count (shorter w (suc (suc m)))
     → turned forward (count (suc (suc m))) (place w (suc (suc m)) i s)
     ≡ passed forward w (suc (suc m)) i + turned (comesFirst forward w i) (count (shorter w (suc (suc m)))) s
 unfolding place passed
@@ -49,16 +49,16 @@ place-read false w m (suc q) s fits h =
     let less : n - suc (suc q) ≡ suc m - suc q = omega arith in
     rw (count-blocks m, less) (from-last (suc m) q size u (omega arith) inside ∙ ap (λ (x : ℕ). (suc m - suc q) * size + x) (read-back w m q s h) ∙ omega arith)
 
--- so the rank, read forward or backward, level by level: with i the entry at jack n and w the way that p came
-pub rank-read : (forward : Bool) (m : ℕ) (p : List ℕ) (w : Way) → Derangement (suc (suc m)) p → way (suc (suc m)) p ≡ w
+-- so the rank, read forward or backward, level by level: with i the entry at jack n and w the letter that p came by
+pub rank-read : (forward : Bool) (m : ℕ) (p : List ℕ) (w : Letter) → Derangement (suc (suc m)) p → letter (suc (suc m)) p ≡ w
     → turned forward (count (suc (suc m))) (rank (suc (suc m)) p)
     ≡ passed forward w (suc (suc m)) (entry p (suc (suc m)))
     + turned (comesFirst forward w (entry p (suc (suc m)))) (count (shorter w (suc (suc m)))) (rank (shorter w (suc (suc m))) (back w (suc (suc m)) p))
 rank-read forward m p w D e =
     let n = suc (suc m) in
     let i = entry p n in
-    let t = back (way n p) n p in
-    let made = way-back m p D in
+    let t = back (letter n p) n p in
+    let made = letter-back m p D in
     rw (← e)
-    (ap (turned forward (count n)) (ap (rank n) (made .1) ∙ rank-step (way n p) m i t (end-fits m p D) (made .0))
-    ∙ place-read forward (way n p) m i (rank (shorter (way n p) n) t) (end-fits m p D) (rank-below (shorter (way n p) n) t (made .0)))
+    (ap (turned forward (count n)) (ap (rank n) (made .1) ∙ rank-step (letter n p) m i t (end-fits m p D) (made .0))
+    ∙ place-read forward (letter n p) m i (rank (shorter (letter n p) n) t) (end-fits m p D) (rank-below (shorter (letter n p) n) t (made .0)))

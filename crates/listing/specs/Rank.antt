@@ -7,7 +7,7 @@ use lib.Dec.{eqb, ltb}
 use Rattle.listing.specs.Numbers.{before, odd}
 use Rattle.listing.specs.Pattern.{entry}
 use Rattle.listing.specs.Count.{count}
-use Rattle.listing.specs.Steps.{Way, byA, byB, stepA, stepB, unA, unB}
+use Rattle.listing.specs.Steps.{Letter, byA, byB, stepA, stepB, unA, unB}
 
 -- place s of m, counted from the other end: the place in the reversed list
 abbrev pub fromEnd : ℕ → ℕ → ℕ
@@ -18,7 +18,7 @@ abbrev pub perBlock : ℕ → ℕ
 perBlock n = count (before n) + count (before (before n))
 
 -- the place in an odd block of the pattern made from the shorter one of rank s: first those by A, in the list's order; then those by B, in the reversed
-abbrev pub inOdd : Way → ℕ → ℕ → ℕ
+abbrev pub inOdd : Letter → ℕ → ℕ → ℕ
 inOdd byA n s = s
 inOdd byB n s = count (before n) + fromEnd (count (before (before n))) s
 
@@ -27,8 +27,8 @@ abbrev pub turned : Bool → ℕ → ℕ → ℕ
 turned true m u = u
 turned false m u = fromEnd m u
 
--- the rank of the pattern made by the way w, with i, from the shorter one of rank s: i - 1 whole blocks, and the place in block i
-unfoldable pub place : Way → ℕ → ℕ → ℕ → ℕ
+-- the rank of the pattern made by the letter w, with i, from the shorter one of rank s: i - 1 whole blocks, and the place in block i
+unfoldable pub place : Letter → ℕ → ℕ → ℕ → ℕ
 place w n i s = before i * perBlock n + turned (odd i) (perBlock n) (inOdd w n s)
 
 -- the rank of p: with i the entry at jack n, by B if jack i holds n, else by A

@@ -38,25 +38,25 @@ unfoldable pub unB : ℕ → List ℕ → List ℕ
 unB n p = tabulate (before (before n)) (λ j. byBackB n p j)
 
 -- A pattern of n ports comes from a shorter one by A or by B
-pub data Way : Type 0 where
-  byA : Way
-  byB : Way
+pub data Letter : Type 0 where
+  byA : Letter
+  byB : Letter
 
 -- the ports of the shorter pattern
-abbrev pub shorter : Way → ℕ → ℕ
+abbrev pub shorter : Letter → ℕ → ℕ
 shorter byA n = before n
 shorter byB n = before (before n)
 
 -- the step itself
-abbrev pub step : Way → ℕ → ℕ → List ℕ → List ℕ
+abbrev pub step : Letter → ℕ → ℕ → List ℕ → List ℕ
 step byA n i t = stepA n i t
 step byB n i t = stepB n i t
 
 -- the step back
-abbrev pub back : Way → ℕ → List ℕ → List ℕ
+abbrev pub back : Letter → ℕ → List ℕ → List ℕ
 back byA n p = unA n p
 back byB n p = unB n p
 
--- the way that p came: with i the entry at jack n, by B if jack i holds n, else by A (the paper, 'The list')
-unfoldable pub way : ℕ → List ℕ → Way
-way n p = cond (eqb (entry p (entry p n)) n) byB byA
+-- the letter that p came by: with i the entry at jack n, by B if jack i holds n, else by A (the paper, 'The list')
+unfoldable pub letter : ℕ → List ℕ → Letter
+letter n p = cond (eqb (entry p (entry p n)) n) byB byA

@@ -10,7 +10,7 @@ use Rattle.listing.specs.Pattern.{entry}
 use Rattle.words.specs.Told.{Spot, nowhere, accepted, refused}
 use Rattle.words.specs.declared.Line.{Line}
 use Rattle.pattern_check.specs.Calls.{checkAs}
-use Rattle.panel.specs.Calls.{onPanel, after, carryOf, carryBytes}
+use Rattle.panel.specs.Calls.{onPanel, afterLine, carryOf, carryBytes}
 use Rattle.words.specs.Shape.{lineFits}
 
 module _ {A : Type 0} (most : ℕ) (p : List ℕ) (fits : Bool) (a : A) where
@@ -39,7 +39,7 @@ carry-refused most l p k s e = let told = panel-refused most p (lineFits (length
 
 module _ (most : ℕ) (p : List ℕ) (sound : accepted tt ≡ checkAs false most p) (l k : Line) (is : l ≡ k) where
   -- a line that fits is carried out
-  pub carry-accepted : lineFits (length p) k ≡ true → (accepted tt ≡ carryOf most l p) × (after k p ≡ carryBytes most l p)
+  pub carry-accepted : lineFits (length p) k ≡ true → (accepted tt ≡ carryOf most l p) × (afterLine k p ≡ carryBytes most l p)
   unfolding carryOf carryBytes
   carry-accepted t = let told = fitting most p (lineFits (length p) k) tt sound t in rw is (told, rw (← told))
 

@@ -18,7 +18,7 @@ use Rattle.words.specs.declared.Order.the-variants.{Swap, Turn}
 use Rattle.words.specs.declared.Line.{Line}
 use Rattle.words.specs.declared.Line.the-variants.{Movement, Mark, End}
 use Rattle.pattern_check.proofs.Accepted.{Panel}
-use Rattle.panel.specs.Calls.{after, carryOf, carryBytes}
+use Rattle.panel.specs.Calls.{afterLine, carryOf, carryBytes}
 use Rattle.words.specs.Shape.{lineFits}
 use Rattle.panel.proofs.Joined.{told-fits}
 
@@ -40,7 +40,7 @@ end-left most m p = unmoved (carryOf most (End m) p) p
 -- ---- orders
 
 -- an accepted line found a panel that it fits, and leaves the panel after it
-left : (most : ℕ) (l : Line) (p : List ℕ) → accepted tt ≡ carryOf most l p → Panel most p × (lineFits (length p) l ≡ true) × (carryBytes most l p ≡ after l p)
+left : (most : ℕ) (l : Line) (p : List ℕ) → accepted tt ≡ carryOf most l p → Panel most p × (lineFits (length p) l ≡ true) × (carryBytes most l p ≡ afterLine l p)
 unfolding carryOf carryBytes
 left most l p e = let t = told-fits most p (lineFits (length p) l) tt tt e in (t .0, t .1, rw (← e))
 
@@ -82,7 +82,7 @@ order-panel most o p P s =
     }
 
 -- and so is the panel after each line that fits
-after-panel : (most : ℕ) (l : Line) (p : List ℕ) → Panel most p → lineFits (length p) l ≡ true → Panel most (after l p)
+after-panel : (most : ℕ) (l : Line) (p : List ℕ) → Panel most p → lineFits (length p) l ≡ true → Panel most (afterLine l p)
 after-panel most (Movement o) p P t = order-panel most (orderOf o) p P (shaped-shape (length p) (orderOf o) t)
 after-panel most (Mark m r) p P t = P
 after-panel most (End m) p P t = P

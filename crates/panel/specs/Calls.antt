@@ -32,14 +32,14 @@ unfoldable pub jackOf : ℕ → List ℕ → ℕ → Told ℕ
 jackOf most p v = onPanel most p (oneOf (length p) v) (seek p v 1 (length p))
 
 -- the panel after a line: an order does what the list says, mark and end leave it as it is
-abbrev pub after : Line → List ℕ → List ℕ
-after (Movement o) p = list.carry (orderOf o) p
-after (Mark m r) p = p
-after (End m) p = p
+abbrev pub afterLine : Line → List ℕ → List ℕ
+afterLine (Movement o) p = list.carry (orderOf o) p
+afterLine (Mark m r) p = p
+afterLine (End m) p = p
 
 -- a line carried out
 unfoldable pub carryOf : ℕ → Line → List ℕ → Told (Unit {0})
 carryOf most l p = onPanel most p (lineFits (length p) l) tt
 
 unfoldable pub carryBytes : ℕ → Line → List ℕ → List ℕ
-carryBytes most l p = leaves (carryOf most l p) (after l p) p
+carryBytes most l p = leaves (carryOf most l p) (afterLine l p) p

@@ -14,12 +14,12 @@ use borrow.Author.Tests.{eq-eqb, ne-eqb}
 use Rattle.listing.specs.Numbers.{Among, before}
 use Rattle.listing.specs.Pattern.{entry, Derangement}
 use Rattle.listing.specs.Count.{count}
-use Rattle.listing.specs.Steps.{Way, byA, byB, shorter, back, way}
+use Rattle.listing.specs.Steps.{Letter, byA, byB, shorter, back, letter}
 use Rattle.listing.specs.Rank.{perBlock, turned, rank}
 use Rattle.listing.specs.Reading.{other, comesFirst, passed}
 use Rattle.listing.specs.Limits.{mostPorts}
 use Rattle.listing.proofs.Counts.{count-blocks}
-use Rattle.listing.proofs.Shorter.{end-fits, way-back}
+use Rattle.listing.proofs.Shorter.{end-fits, letter-back}
 use Rattle.listing.proofs.Places.{turned-below}
 use Rattle.listing.proofs.Ranks.{rank-below}
 use Rattle.listing.proofs.Reading.{rank-read}
@@ -27,7 +27,7 @@ use Rattle.listing.proofs.Limits.{count-most}
 use Rattle.listing.proofs.Numbers.{less-one, less-two}
 use Rattle.pattern_steps.specs.Steps.{portsBefore, portsAfter, afterStep, MayStep}
 use Rattle.pattern_steps.specs.declared.steps.Step.{Step}
-use Rattle.pattern_ranks.specs.Levels.{cameOf, wayOf, endOf, backFrom, LevelOf}
+use Rattle.pattern_ranks.specs.Levels.{cameOf, letterOf, endOf, backFrom, LevelOf}
 use Rattle.pattern_ranks.specs.declared.types.Level.{Level}
 use Rattle.pattern_ranks.specs.declared.types.Came.{Came}
 use Rattle.pattern_ranks.specs.declared.types.Came.the-variants.{ByA, ByB}
@@ -36,17 +36,17 @@ use Rattle.pattern_ranks.proofs.Origins.{two-ports}
 -- ---- the step that a pattern came by
 
 -- by B if jack i holds n
-pub came-B : {n i x : ℕ} (p : List ℕ) → i ≡ entry p n → x ≡ entry p i → x ≡ n → ByB i ≡ cameOf (way n p) (entry p n)
-unfolding way
+pub came-B : {n i x : ℕ} (p : List ℕ) → i ≡ entry p n → x ≡ entry p i → x ≡ n → ByB i ≡ cameOf (letter n p) (entry p n)
+unfolding letter
 came-B {n = n} {x = x} p e f h = rw (← e, ← f, eq-eqb x n h)
 
 -- else by A
-pub came-A : {n i x : ℕ} (p : List ℕ) → i ≡ entry p n → x ≡ entry p i → x ≢ n → ByA i ≡ cameOf (way n p) (entry p n)
-unfolding way
+pub came-A : {n i x : ℕ} (p : List ℕ) → i ≡ entry p n → x ≡ entry p i → x ≢ n → ByA i ≡ cameOf (letter n p) (entry p n)
+unfolding letter
 came-A {n = n} {x = x} p e f h = rw (← e, ← f, ne-eqb x n h)
 
 -- which step it was, and the entry at the last jack
-as-came : (c : Came) (w : Way) (i : ℕ) → c ≡ cameOf w i → (w ≡ wayOf c) × (i ≡ endOf c)
+as-came : (c : Came) (w : Letter) (i : ℕ) → c ≡ cameOf w i → (w ≡ letterOf c) × (i ≡ endOf c)
 as-came c byA i e = rw e (refl, refl)
 as-came c byB i e = rw e (refl, refl)
 
@@ -58,10 +58,10 @@ pub two-known : {n : ℕ} {p : List ℕ} → n ≢ 0 → (n ≤ mostPorts) × De
 two-known h known = (two-jacks h (known .1), known .0, known .1)
 
 -- the entry at the last jack is 1 to n - 1
-pub end-among : {n : ℕ} {p : List ℕ} {c : Came} → 2 ≤ n → Derangement n p → c ≡ cameOf (way n p) (entry p n) → Among (n - 1) (endOf c)
+pub end-among : {n : ℕ} {p : List ℕ} {c : Came} → 2 ≤ n → Derangement n p → c ≡ cameOf (letter n p) (entry p n) → Among (n - 1) (endOf c)
 end-among {n = zero} h D e = absurd (omega arith)
 end-among {n = suc zero} h D e = absurd (omega arith)
-end-among {n = suc (suc m)} {p = p} {c = c} h D e = rw (← as-came c (way (suc (suc m)) p) (entry p (suc (suc m))) e .1) (omega (arith, end-fits m p D))
+end-among {n = suc (suc m)} {p = p} {c = c} h D e = rw (← as-came c (letter (suc (suc m)) p) (entry p (suc (suc m))) e .1) (omega (arith, end-fits m p D))
 
 -- ---- the first part of a block
 
@@ -89,13 +89,13 @@ before-fewer true n (suc i) h = omega arith
 before-fewer false n i h = omega arith
 
 -- a part of a block is no longer than the block
-part-inside : (first : Bool) (w : Way) (n : ℕ) → cond first 0 (count (shorter (other w) n)) ≤ perBlock n
+part-inside : (first : Bool) (w : Letter) (n : ℕ) → cond first 0 (count (shorter (other w) n)) ≤ perBlock n
 part-inside true w n = omega arith
 part-inside false byA n = omega arith
 part-inside false byB n = omega arith
 
 -- what is passed over is no more than the list
-pub passed-inside : (forward : Bool) (w : Way) {n i k size part : ℕ} → 2 ≤ n → Among (n - 1) i → k ≡ cond forward (before i) (n - suc i)
+pub passed-inside : (forward : Bool) (w : Letter) {n i k size part : ℕ} → 2 ≤ n → Among (n - 1) i → k ≡ cond forward (before i) (n - suc i)
     → size ≡ perBlock n → part ≡ cond (comesFirst forward w i) 0 (count (shorter (other w) n)) → k * size + part ≤ count n
 passed-inside forward w {n = n} {i = i} h fits ek es ep =
     rw (ek, es)
@@ -104,40 +104,40 @@ passed-inside forward w {n = n} {i = i} h fits ek es ep =
 -- ---- the place
 
 -- the shorter pattern has fewer ports
-shorter-fewer : (w : Way) (m : ℕ) → shorter w (suc (suc m)) < suc (suc m)
+shorter-fewer : (w : Letter) (m : ℕ) → shorter w (suc (suc m)) < suc (suc m)
 shorter-fewer byA m = omega arith
 shorter-fewer byB m = omega arith
 
--- the step back is that of the way that the pattern came, and asks nothing of the pattern
-back-way : (c : Came) (n : ℕ) (p : List ℕ)
-    → (portsBefore (backFrom c) n ≡ n) × (portsAfter (backFrom c) n ≡ shorter (wayOf c) n) × (afterStep (backFrom c) n p ≡ back (wayOf c) n p)
-back-way (ByA i) n p = (refl, less-one n, refl)
-back-way (ByB i) n p = (refl, less-two n, refl)
+-- the step back is that of the letter that the pattern came by, and asks nothing of the pattern
+back-letter : (c : Came) (n : ℕ) (p : List ℕ)
+    → (portsBefore (backFrom c) n ≡ n) × (portsAfter (backFrom c) n ≡ shorter (letterOf c) n) × (afterStep (backFrom c) n p ≡ back (letterOf c) n p)
+back-letter (ByA i) n p = (refl, less-one n, refl)
+back-letter (ByB i) n p = (refl, less-two n, refl)
 
 pub back-may : (c : Came) (n : ℕ) (p : List ℕ) {s : Step} → s ≡ backFrom c → MayStep s n p
 back-may (ByA i) n p e = rw e tt
 back-may (ByB i) n p e = rw e tt
 
 -- the place is what is passed over and the place of the shorter pattern, in its list read forward or backward
-place-level : (forward : Bool) {n : ℕ} {p : List ℕ} {c : Came} → 2 ≤ n → Derangement n p → c ≡ cameOf (way n p) (entry p n)
-    → (shorter (wayOf c) n < n) × Derangement (shorter (wayOf c) n) (back (wayOf c) n p)
+place-level : (forward : Bool) {n : ℕ} {p : List ℕ} {c : Came} → 2 ≤ n → Derangement n p → c ≡ cameOf (letter n p) (entry p n)
+    → (shorter (letterOf c) n < n) × Derangement (shorter (letterOf c) n) (back (letterOf c) n p)
     × (turned forward (count n) (rank n p)
-    ≡ passed forward (wayOf c) n (endOf c)
-    + turned (comesFirst forward (wayOf c) (endOf c)) (count (shorter (wayOf c) n)) (rank (shorter (wayOf c) n) (back (wayOf c) n p)))
+    ≡ passed forward (letterOf c) n (endOf c)
+    + turned (comesFirst forward (letterOf c) (endOf c)) (count (shorter (letterOf c) n)) (rank (shorter (letterOf c) n) (back (letterOf c) n p)))
 place-level forward {n = zero} h D e = absurd (omega arith)
 place-level forward {n = suc zero} h D e = absurd (omega arith)
 place-level forward {n = suc (suc m)} {p = p} {c = c} h D e =
     let n = suc (suc m) in
-    let a = as-came c (way n p) (entry p n) e in
-    rw (← a .0, ← a .1) (shorter-fewer (way n p) m, way-back m p D .0, rank-read forward m p (way n p) D refl)
+    let a = as-came c (letter n p) (entry p n) e in
+    rw (← a .0, ← a .1) (shorter-fewer (letter n p) m, letter-back m p D .0, rank-read forward m p (letter n p) D refl)
 
 -- so the level that code computes is that of the law
 pub level-of : {forward : Bool} {n : ℕ} (q : List ℕ) {c : Came} {s : Step} (l : Level) → 2 ≤ n → Derangement n (take n q)
-    → c ≡ cameOf (way n (take n q)) (entry (take n q) n) → s ≡ backFrom c → l .passed ≡ passed forward (wayOf c) n (endOf c)
-    → l .forward ≡ comesFirst forward (wayOf c) (endOf c) → l .ports ≡ portsAfter s n
+    → c ≡ cameOf (letter n (take n q)) (entry (take n q) n) → s ≡ backFrom c → l .passed ≡ passed forward (letterOf c) n (endOf c)
+    → l .forward ≡ comesFirst forward (letterOf c) (endOf c) → l .ports ≡ portsAfter s n
     → take (portsAfter s n) (l .pattern) ≡ afterStep s n (take (portsBefore s n) q) → LevelOf forward n (take n q) l
 level-of {forward = forward} {n = n} q {c = c} l h D e es ex ef ek et =
-    let w = back-way c n (take n q) in
+    let w = back-letter c n (take n q) in
     let k = rw (es, w .1) at ek in
     let t = rw (es, w .0, w .1, w .2) at et in
     let law = rw (← ex, ← ef, ← t, ← k) at (place-level forward h D e) in

@@ -9,7 +9,7 @@ use lib.ListN.{take}
 use Rattle.listing.specs.Numbers.{before, odd}
 use Rattle.listing.specs.Pattern.{Derangement}
 use Rattle.listing.specs.Count.{count}
-use Rattle.listing.specs.Steps.{Way, byA, byB}
+use Rattle.listing.specs.Steps.{Letter, byA, byB}
 use Rattle.listing.specs.Rank.{fromEnd, perBlock, turned, rank}
 use Rattle.pattern_steps.specs.declared.steps.Step.{Step}
 use Rattle.pattern_steps.specs.declared.steps.Step.the-variants.{BackA, BackB}
@@ -29,15 +29,15 @@ originOf n r =
     let i = suc (r / perBlock n) in
     originIn n i (turned (odd i) (perBlock n) (r % perBlock n))
 
--- the step that a pattern came by: the way, and the entry at its last jack
-abbrev pub cameOf : Way → ℕ → Came
+-- the step that a pattern came by: the letter, and the entry at its last jack
+abbrev pub cameOf : Letter → ℕ → Came
 cameOf byA i = Came-ByA i
 cameOf byB i = Came-ByB i
 
--- the way of a step
-abbrev pub wayOf : Came → Way
-wayOf (Came-ByA i) = byA
-wayOf (Came-ByB i) = byB
+-- the letter of a step
+abbrev pub letterOf : Came → Letter
+letterOf (Came-ByA i) = byA
+letterOf (Came-ByB i) = byB
 
 -- the entry at the last jack, which is the number of the block
 abbrev pub endOf : Came → ℕ

@@ -17,16 +17,16 @@ ghost use lib.ListN.{length, take};
 ghost use Rattle.listing.specs.Numbers.{Among, before};
 ghost use Rattle.listing.specs.Pattern.{entry, Derangement};
 ghost use Rattle.listing.specs.Count.{count};
-ghost use Rattle.listing.specs.Steps.{shorter, way};
+ghost use Rattle.listing.specs.Steps.{shorter, letter};
 ghost use Rattle.listing.specs.Rank.{fromEnd, rank};
 ghost use Rattle.listing.specs.Reading.{other, comesFirst, passed};
 ghost use Rattle.listing.specs.Limits.{mostPorts};
-ghost use Rattle.pattern_ranks.specs.Levels.{wayOf, endOf, cameOf, backFrom, LevelOf};
+ghost use Rattle.pattern_ranks.specs.Levels.{letterOf, endOf, cameOf, backFrom, LevelOf};
 
 // The step that p came by: with i the entry at jack n, by B if jack i holds n, else by A.
 pub fn came(p: [u8; LONGEST], n: u8) -> Came
     requires { ⌜ (n ≤ mostPorts) × Among n (entry (take n p) n) ⌝ }
-    ensures { λ r. ⌜ r ≡ cameOf (way n (take n p)) (entry (take n p) n) ⌝ }
+    ensures { λ r. ⌜ r ≡ cameOf (letter n (take n p)) (entry (take n p) n) ⌝ }
 {
     let i = port_at(p, n, n);
     if port_at(p, n, i) == n {
@@ -38,7 +38,7 @@ pub fn came(p: [u8; LONGEST], n: u8) -> Came
 
 // Whether the patterns by a step are the first part of their block, in the list read forward or backward.
 fn comes_first(forward: bool, c: Came) -> bool
-    ensures { λ r. ⌜ r ≡ comesFirst forward (wayOf c) (endOf c) ⌝ }
+    ensures { λ r. ⌜ r ≡ comesFirst forward (letterOf c) (endOf c) ⌝ }
 {
     match c {
         Came::ByA(i) => is_odd(i) == forward,
@@ -67,7 +67,7 @@ fn block_of(c: Came) -> u8
 // How many patterns of a block come before the part in which a pattern stands: none, or those by the other step.
 fn first_part(forward: bool, n: u8, c: Came) -> u64
     requires { ⌜ (2 ≤ n) × (n ≤ mostPorts) ⌝ }
-    ensures { λ r. ⌜ r ≡ cond (comesFirst forward (wayOf c) (endOf c)) 0 (count (shorter (other (wayOf c)) n)) ⌝ }
+    ensures { λ r. ⌜ r ≡ cond (comesFirst forward (letterOf c) (endOf c)) 0 (count (shorter (other (letterOf c)) n)) ⌝ }
 {
     if comes_first(forward, c) {
         return 0;
@@ -81,7 +81,7 @@ fn first_part(forward: bool, n: u8, c: Came) -> u64
 // How many patterns of the list, read forward or backward, come before the part in which a pattern stands.
 pub fn passed_over(forward: bool, n: u8, c: Came) -> u64
     requires { ⌜ (2 ≤ n) × (n ≤ mostPorts) × Among (n - 1) (endOf c) ⌝ }
-    ensures { λ r. ⌜ r ≡ passed forward (wayOf c) n (endOf c) ⌝ }
+    ensures { λ r. ⌜ r ≡ passed forward (letterOf c) n (endOf c) ⌝ }
 {
     let blocks = blocks_before(forward, n, block_of(c)) as u64;
     blocks * block_size(n) + first_part(forward, n, c)

@@ -10,7 +10,7 @@ use lib.Seq.{append-snoc}
 use Rattle.words.specs.Told.{accepted, atLine, need}
 use Rattle.words.specs.declared.Signed.{Signed}
 use Rattle.words.proofs.Told.{accepted-once, need-accepted, then-accepted}
-use Rattle.text_keys.specs.Parts.{newline, firstOf, Parts, cut, after}
+use Rattle.text_keys.specs.Parts.{newline, firstOf, Parts, cut, afterKey}
 use Rattle.text_keys.proofs.Cuts.{cut-joined, cut-parts}
 use Rattle.text_keys.proofs.Keys.{after-key, key-after}
 use Rattle.plan_lines.specs.Field.{fieldText, passed, lineIn, between, numberIn, Field, Got, fieldIn}
@@ -45,8 +45,8 @@ module _ (f : Field) (line : ℕ) where
       let b = then-accepted (need 11 (atLine line) (cut newline t)) _ p e in
       let q = b .first in
       let c = cut-parts newline t q (need-accepted 11 (atLine line) (cut newline t) q (b .taken)) in
-      let k = then-accepted (need 7 (atLine line) (after (f .key) (q .front))) _ p (b .on) in
-      let v = key-after (f .key) (q .front) (k .first) (need-accepted 7 (atLine line) (after (f .key) (q .front)) (k .first) (k .taken)) in
+      let k = then-accepted (need 7 (atLine line) (afterKey (f .key) (q .front))) _ p (b .on) in
+      let v = key-after (f .key) (q .front) (k .first) (need-accepted 7 (atLine line) (afterKey (f .key) (q .front)) (k .first) (k .taken)) in
       let g : record { front = k .first; rest = q .rest } ≡ p = accepted-once (k .on) in
       c .whole
       ∙ ap (λ s. s ++ (newline ∷ q .rest)) v

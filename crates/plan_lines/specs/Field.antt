@@ -7,7 +7,7 @@ use mathlib.Core.List.{List, [], _∷_, _++_}
 use mathlib.Core.Option.{Option}
 use lib.Dec.{leb, ltb}
 use Rattle.words.specs.Told.{Told, accepted, refused, atLine, then, need}
-use Rattle.text_keys.specs.Parts.{newline, Parts, cut, after}
+use Rattle.text_keys.specs.Parts.{newline, Parts, cut, afterKey}
 use Rattle.text_numbers.specs.Decimal.{numberUpTo}
 use Rattle.words.specs.declared.Signed.{Signed}
 use Rattle.text_numbers.specs.Signed.{plain, signedUpTo}
@@ -23,7 +23,7 @@ passed k line test a = cond test (accepted a) (refused k (atLine line))
 -- a line at the front of a text: the text of its value, and the text after it. 'newline present (11), key with its = (7)'
 unfoldable pub lineIn : List ℕ → ℕ → List ℕ → Told Parts
 lineIn key line t =
-    then (need 11 (atLine line) (cut newline t)) (λ p. then (need 7 (atLine line) (after key (p .front))) (λ v. accepted (record { front = v; rest = p .rest })))
+    then (need 11 (atLine line) (cut newline t)) (λ p. then (need 7 (atLine line) (afterKey key (p .front))) (λ v. accepted (record { front = v; rest = p .rest })))
 
 -- whether a number is one from low on and below `below`
 unfoldable pub between : ℕ → ℕ → ℕ → Bool

@@ -12,7 +12,7 @@ use lib.ListN.{length, drop, getD, drop-of-length-le}
 use lib.Seq.{drop-cons, drop-append-seam}
 use borrow.Author.Tests.{eq-eqb, ne-eqb}
 use Rattle.listing.proofs.Numbers.{either, below?, same?}
-use Rattle.text_keys.specs.Parts.{begins, after}
+use Rattle.text_keys.specs.Parts.{begins, afterKey}
 
 -- ---- byte by byte
 
@@ -43,11 +43,11 @@ begins-whole (k ∷ key) (x ∷ t) e =
     (λ q. absurd (true≢false (sym e ∙ begins-other k x key t q)))
 
 -- what follows a key is the text after it
-pub after-key : (key t : List ℕ) → after key (key ++ t) ≡ some t
+pub after-key : (key t : List ℕ) → afterKey key (key ++ t) ≡ some t
 after-key key t = rw (begins-key key t, drop-append-seam key t)
 
 -- and a text where v follows a key is the key and v
-pub key-after : (key t v : List ℕ) → after key t ≡ some v → t ≡ key ++ v
+pub key-after : (key t v : List ℕ) → afterKey key t ≡ some v → t ≡ key ++ v
 key-after key t v e = by (begins key t) refl e
   where
     by : (y : Bool) → begins key t ≡ y → cond y (some (drop (length key) t)) none ≡ some v → t ≡ key ++ v

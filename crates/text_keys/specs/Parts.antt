@@ -49,5 +49,5 @@ begins (k ∷ key) [] = false
 begins (k ∷ key) (x ∷ t) = cond (eqb x k) (begins key t) false
 
 -- what follows the key in a text that begins with it
-abbrev pub after : List ℕ → List ℕ → Option (List ℕ)
-after key t = cond (begins key t) (some (drop (length key) t)) none
+abbrev pub afterKey : List ℕ → List ℕ → Option (List ℕ)
+afterKey key t = cond (begins key t) (some (drop (length key) t)) none

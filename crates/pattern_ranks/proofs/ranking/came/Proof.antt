@@ -1,4 +1,4 @@
--- `pattern_ranks::ranking::came` meets its contract: the test is that of the definition of the way.
+-- `pattern_ranks::ranking::came` meets its contract: the test is that of the definition of the letter.
 -- Assumes nothing.
 use borrow.Author.Needs.{needs}
 use Rattle.pattern_ranks.proofs.Passing.{came-A, came-B}

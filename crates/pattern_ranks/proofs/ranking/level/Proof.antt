@@ -1,4 +1,4 @@
--- `pattern_ranks::ranking::level` meets its contract: the way that p came, what it passes over and the step back are those of the law of the place.
+-- `pattern_ranks::ranking::level` meets its contract: the letter that p came by, what it passes over and the step back are those of the law of the place.
 -- Assumes nothing.
 use native.Mathlib.Omega.{arith}
 use borrow.Author.Needs.{needs}
