@@ -6,9 +6,6 @@ use Rattle.pattern_moves.proofs.Ranks.{before-first, before-other}
 use Rattle.pattern_moves.proofs.neighbours.rank_before.Statement.{statement}
 use Rattle.pattern_moves.proofs.neighbours.rank_before.Tie as tie
 
-sub-result : tie.Need-sub-result
-sub-result c = omega arith
-
 returns : tie.Need-returns
 returns c = rw (c .count-of .ensures) (before-first _ _ (c .before .if1 .taken))
 
@@ -16,4 +13,4 @@ returns-2 : tie.Need-returns-2
 returns-2 c = before-other _ _ (c .if1 .left)
 
 pub rank-before-spec : {M : Type 1} → statement M
-rank-before-spec = tie.close (tie.spec (λ c κs. search needs) sub-result returns (λ c. search needs) returns-2)
+rank-before-spec = tie.close (tie.spec (λ c κs. search needs) (λ c. omega arith) returns (λ c. search needs) returns-2)
