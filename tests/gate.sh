@@ -43,6 +43,10 @@ copy crate-left-out-of-the-tour
 sed 's/`listing_cases`/the cases/' README.md >"$gate_copies/crate-left-out-of-the-tour/README.md"
 must_fail crate-left-out-of-the-tour "a crate that README's tour does not name: listing_cases"
 
+copy room-after-its-own
+sed 's/^text_keys:/text_keys: panel/' crates.txt >"$gate_copies/room-after-its-own/crates.txt"
+must_fail room-after-its-own 'a crate that leans on a room after its own: text_keys on panel'
+
 # a PATH on which every tool is found but rt
 copy no-kit
 mkdir "$gate_copies/no-kit/bin"

@@ -16,13 +16,23 @@ else
     fail "a crate that README's tour does not name: $(echo $unnamed)"
 fi
 
-# a room is the part of the name before its first _; the programs' room has names of its own
-rooms='listing promise words text pattern patterns panel line plan plans campaign printing orders cases face demands'
-homeless=$(for name in $listed; do echo " $rooms " | grep -qF " ${name%%_*} " || echo "$name"; done)
+# a room is the part of the name before its first _; the programs' room has names of its own. Each crate stands in a room, and knows its own
+# room and those before it
+rooms='listing promise words text pattern:patterns panel line plan:plans campaign printing:orders:cases face demands'
+homeless=$(for name in $listed; do echo " $rooms " | grep -qE "[ :]${name%%_*}[ :]" || echo "$name"; done)
 if [ -z "$homeless" ]; then
     pass "every crate begins with its room"
 else
     fail "a crate that begins with no room: $(echo $homeless)"
+fi
+climbing=$(awk -v rooms="$rooms" '
+    BEGIN { n = split(rooms, room, " "); for (i = 1; i <= n; i++) { m = split(room[i], names, ":"); for (k = 1; k <= m; k++) floor[names[k]] = i } }
+    function at(crate) { sub(/_.*/, "", crate); return floor[crate] }
+    { sub(/#.*/, ""); crate = $1; sub(/:.*/, "", crate); for (k = 2; k <= NF; k++) if (at($k) > at(crate)) print crate " on " $k }' crates.txt)
+if [ -z "$climbing" ]; then
+    pass "every crate knows only its own room and those before it"
+else
+    fail "a crate that leans on a room after its own: $(echo $climbing)"
 fi
 
 leaning=$(sed -n 's/^\([a-z_0-9]*\):.* demands\( .*\)*$/\1/p' crates.txt)

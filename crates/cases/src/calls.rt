@@ -36,45 +36,50 @@ fn patterns_tried() {
     says::answered(b"pattern 3,1", checked(&[3, 1]), 3, 1);
 }
 
+// A plan's text, beside what is expected of it.
+fn plan_tried(what: &[u8], text: &[u8], number: u8, place: u8) {
+    says::answered(what, planned(text), number, place);
+}
+
 fn ports_tried() {
     says::answered(b"20 ports", numbered(20), 0, 0);
     says::answered(b"21 ports", numbered(21), 1, 0);
-    says::answered(
+    plan_tried(
         b"plan of 20 ports",
-        planned(b"ports=20\nlegs=1\nstart=0\nrun=0\n"),
+        b"ports=20\nlegs=1\nstart=0\nrun=0\n",
         0,
         0,
     );
-    says::answered(
+    plan_tried(
         b"plan of 21 ports",
-        planned(b"ports=21\nlegs=1\nstart=0\nrun=0\n"),
+        b"ports=21\nlegs=1\nstart=0\nrun=0\n",
         1,
         1,
     );
 }
 
 fn runs_tried() {
-    says::answered(
+    plan_tried(
         b"4 ports, run 8",
-        planned(b"ports=4\nlegs=1\nstart=0\nrun=8\n"),
+        b"ports=4\nlegs=1\nstart=0\nrun=8\n",
         0,
         0,
     );
-    says::answered(
+    plan_tried(
         b"4 ports, run -8",
-        planned(b"ports=4\nlegs=1\nstart=0\nrun=-8\n"),
+        b"ports=4\nlegs=1\nstart=0\nrun=-8\n",
         0,
         0,
     );
-    says::answered(
+    plan_tried(
         b"4 ports, run 9",
-        planned(b"ports=4\nlegs=1\nstart=0\nrun=9\n"),
+        b"ports=4\nlegs=1\nstart=0\nrun=9\n",
         10,
         4,
     );
-    says::answered(
+    plan_tried(
         b"4 ports, run -9",
-        planned(b"ports=4\nlegs=1\nstart=0\nrun=-9\n"),
+        b"ports=4\nlegs=1\nstart=0\nrun=-9\n",
         10,
         4,
     );
@@ -84,5 +89,5 @@ pub fn to_run() {
     patterns_tried();
     ports_tried();
     runs_tried();
-    says::answered(b"legs 0", planned(b"ports=4\nlegs=0\n"), 9, 2);
+    plan_tried(b"legs 0", b"ports=4\nlegs=0\n", 9, 2);
 }

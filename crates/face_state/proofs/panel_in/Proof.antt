@@ -18,9 +18,6 @@ Inv-loop words panel₀ i₀ panel i = (i ≤ mostPorts) × (length words ≡ st
 abbrev μ-loop : tie.MeasureT-loop
 μ-loop words panel₀ i₀ panel i = mostPorts - i
 
-loop-holds : tie.Need-loop-holds Inv-loop μ-loop
-loop-holds c = (search needs, c .pre .many, refl, refl)
-
 cast-panel : tie.Need-cast-panel Inv-loop μ-loop
 cast-panel c = let l = c .before .before in omega (arith, l .before .pre .panel (l .loop .i) (c .before .loop-test .taken))
 
@@ -45,7 +42,7 @@ panel-in-spec =
     (tie.spec
     Inv-loop
     μ-loop
-    loop-holds
+    (λ c. (search needs, c .pre .many, refl, refl))
     (λ c. search needs)
     (λ c. search needs)
     (λ c. search needs)

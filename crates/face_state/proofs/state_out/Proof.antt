@@ -22,9 +22,6 @@ abbrev μ-loop : tie.MeasureT-loop
 sized : (c : tie.Start Inv-loop μ-loop) → Sized (c .args .s)
 sized c = record { starts = search needs; runs = search needs; panel = search needs }
 
-loop-holds : tie.Need-loop-holds Inv-loop μ-loop
-loop-holds c = (search needs, c .before .pre, refl)
-
 loop-again : tie.Need-loop-again Inv-loop μ-loop
 loop-again c =
     let l = c .before .before in
@@ -50,7 +47,7 @@ state-out-spec =
     (tie.spec
     Inv-loop
     μ-loop
-    loop-holds
+    (λ c. (search needs, c .before .pre, refl))
     (λ c κs. search needs)
     (λ c. search needs)
     (λ c. search needs)

@@ -20,9 +20,6 @@ abbrev μ-loop : tie.MeasureT-loop
 returns : tie.Need-returns Inv-loop μ-loop
 returns c = sym (not-as-many (c .before .before .args .words .now) limits (c .if1 .taken))
 
-loop-holds : tie.Need-loop-holds Inv-loop μ-loop
-loop-holds c = (search needs, λ k h. absurd (omega arith))
-
 returns-2 : tie.Need-returns-2 Inv-loop μ-loop
 returns-2 c =
     let m = c .before .before in
@@ -47,7 +44,7 @@ words-fit-spec =
     Inv-loop
     μ-loop
     returns
-    loop-holds
+    (λ c. (search needs, λ k h. absurd (omega arith)))
     (λ c κs. search needs)
     (λ c. search needs)
     (λ c. search needs)

@@ -30,9 +30,6 @@ place-short c =
 and-both-requires : tie.Need-and-both-requires
 and-both-requires c κs = omega (arith, number-short (c .before .before), digits-8 (c .place-number .result) (search needs))
 
-and-part-requires : tie.Need-and-part-requires
-and-part-requires c κs = omega (arith, place-short (c .before))
-
 returns : tie.Need-returns
 unfolding refusalText
 returns c =
@@ -64,5 +61,5 @@ refusal-text-spec =
     (λ c. search needs)
     and-both-requires
     (λ c. search needs)
-    and-part-requires
+    (λ c κs. omega (arith, place-short (c .before)))
     returns)

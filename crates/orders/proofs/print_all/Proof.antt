@@ -21,19 +21,10 @@ Inv-loop campaign₀ more₀ campaign more = Running (campaign .state)
 abbrev μ-loop : tie.MeasureT-loop
 μ-loop campaign₀ more₀ campaign more = cond more (suc (toGo (campaign .state))) 0
 
-loop-holds : tie.Need-loop-holds Inv-loop μ-loop
-loop-holds c = c .pre
-
-print-some-requires : tie.Need-print-some-requires Inv-loop μ-loop
-print-some-requires c κs = c .before .loop .inv
-
 loop-less : tie.Need-loop-less Inv-loop μ-loop
 loop-less c = went-less _ _ _ (c .before .before .loop-test .taken) _ (c .before .print-some .ensures .1)
-
-loop-again : tie.Need-loop-again Inv-loop μ-loop
-loop-again c = c .before .print-some .ensures .0
 
 pub print-all-spec : {M : Type 1} → statement M
 print-all-spec =
     tie.close
-    (tie.spec Inv-loop μ-loop loop-holds print-some-requires loop-less loop-again (λ c. tt))
+    (tie.spec Inv-loop μ-loop (λ c. c .pre) (λ c κs. c .before .loop .inv) loop-less (λ c. c .before .print-some .ensures .0) (λ c. tt))

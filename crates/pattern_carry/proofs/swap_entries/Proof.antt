@@ -7,9 +7,6 @@ use Rattle.pattern_carry.proofs.Stores.{jacks-swapped}
 use Rattle.pattern_carry.proofs.swap_entries.Statement.{statement}
 use Rattle.pattern_carry.proofs.swap_entries.Tie as tie
 
-slice-write-p-2 : tie.Need-slice-write-p-2
-slice-write-p-2 c = simp length-set (omega arith)
-
 returns : tie.Need-returns
 returns c = let given = c .before .before .before .before .pre in jacks-swapped _ _ _ (given .0) (given .1) (given .2)
 
@@ -24,6 +21,6 @@ swap-entries-spec =
     (λ c. search needs)
     (λ c. search needs)
     (λ c. search needs)
-    slice-write-p-2
+    (λ c. simp length-set (omega arith))
     (λ c. search needs)
     returns)

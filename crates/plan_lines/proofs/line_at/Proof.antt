@@ -26,12 +26,6 @@ inside c =
     let s = c .before .before .before .before .before .before in
     line-within (s .args .text .now) (s .args .at) (s .args .key .now) (s .args .line) _ (at-newline c) (s .pre)
 
-add-to : tie.Need-add-to
-add-to c = omega (arith, inside (c .before))
-
-part-has-key-end : tie.Need-part-has-key-end
-part-has-key-end c = omega (arith, inside (c .before))
-
 returns : tie.Need-returns
 returns c =
     let k = c .before .before .before .before in
@@ -69,10 +63,10 @@ line-at-spec =
     (λ c. search needs)
     (λ c κs. search needs)
     (λ c. search needs)
-    add-to
+    (λ c. omega (arith, inside (c .before)))
     (λ c. search needs)
     (λ c. search needs)
-    part-has-key-end
+    (λ c. omega (arith, inside (c .before)))
     (λ c κs. search needs)
     (λ c. search needs)
     returns

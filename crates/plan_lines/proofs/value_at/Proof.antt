@@ -29,15 +29,6 @@ within : (c : tie.After-known-told2)
     let a = c .before .before .before .before .before .before .args in (g .0 ≤ g .1 .0) × (g .1 .0 < length (a .text .now))
 within c = subst (BoundsWithin _) (c .before .from .given .1) (c .before .before .before .line-at .ensures .1)
 
-sub-number-in : tie.Need-sub-number-in
-sub-number-in c = omega (arith, within c)
-
-part-number-in-start : tie.Need-part-number-in-start
-part-number-in-start c = omega (arith, within c)
-
-part-number-in-end : tie.Need-part-number-in-end
-part-number-in-end c = omega (arith, within c)
-
 add-t22 : tie.Need-add-t22
 add-t22 c = omega (arith, within (c .before .before .before .before .before .before .before))
 
@@ -84,9 +75,9 @@ value-at-spec =
     (λ c κs. search needs)
     (λ c. search needs)
     (λ c. search needs)
-    sub-number-in
-    part-number-in-start
-    part-number-in-end
+    (λ c. omega (arith, within c))
+    (λ c. omega (arith, within c))
+    (λ c. omega (arith, within c))
     (λ c κs. search needs)
     (λ c. search needs)
     (λ c κs. search needs)

@@ -38,15 +38,6 @@ fits c =
     let e = l .before .pre .0 in
     marks-fit p (ruled device p (search needs) (search needs) e) (l .loop .at + 1) (omega (arith, few-legs device p (search needs) (search needs) e))
 
-add-total : tie.Need-add-total Inv-loop μ-loop
-add-total c = omega (arith, more c, fits c)
-
-add-total-2 : tie.Need-add-total-2 Inv-loop μ-loop
-add-total-2 c = omega (arith, more c, fits c)
-
-loop-again : tie.Need-loop-again Inv-loop μ-loop
-loop-again c = (search needs, more c)
-
 returns : tie.Need-returns Inv-loop μ-loop
 returns c =
     let l = c .before in
@@ -61,9 +52,9 @@ marks-before-spec =
     μ-loop
     (λ c. (search needs, marks-none (legsOf (c .args .p))))
     (λ c κs. (c .before .before .pre .0, search needs))
-    add-total
-    add-total-2
+    (λ c. omega (arith, more c, fits c))
+    (λ c. omega (arith, more c, fits c))
     (λ c. search needs)
     (λ c. search needs)
-    loop-again
+    (λ c. (search needs, more c))
     returns)

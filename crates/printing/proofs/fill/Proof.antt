@@ -14,12 +14,6 @@ Inv-loop buf₀ campaign₀ at₀ buf campaign at = Filling (campaign₀ .state)
 abbrev μ-loop : tie.MeasureT-loop
 μ-loop buf₀ campaign₀ at₀ buf campaign at = length buf - at
 
-loop-holds : tie.Need-loop-holds Inv-loop μ-loop
-loop-holds c = filling-first _ _
-
-request-line-requires : tie.Need-request-line-requires Inv-loop μ-loop
-request-line-requires c κs = c .before .loop .inv .within
-
 loop-less : tie.Need-loop-less Inv-loop μ-loop
 loop-less c =
     let w = c .before .before .before .before .before in
@@ -50,8 +44,8 @@ fill-spec =
     (tie.spec
     Inv-loop
     μ-loop
-    loop-holds
-    request-line-requires
+    (λ c. filling-first _ _)
+    (λ c κs. c .before .loop .inv .within)
     (λ c. search needs)
     loop-less
     loop-again

@@ -20,9 +20,6 @@ returns-2 c =
 returns-3 : tie.Need-returns-3
 returns-3 c = from-mark _ _ _ _ (c .before .before .if3 .taken)
 
-returns-4 : tie.Need-returns-4
-returns-4 c = from-end _ _ _ _ (c .before .if4 .taken)
-
 returns-5 : tie.Need-returns-5
 returns-5 c =
     let t = c .before in
@@ -49,5 +46,5 @@ line-in-spec =
     (λ c. search needs)
     returns-3
     (λ c. search needs)
-    returns-4
+    (λ c. from-end _ _ _ _ (c .before .if4 .taken))
     returns-5)

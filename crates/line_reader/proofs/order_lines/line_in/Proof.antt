@@ -27,12 +27,6 @@ decides c e =
     sym (ap (judgedBy largest64 mostPorts (g .0 .0)) e)
     ∙ numbers-judged largest64 mostPorts (g .0 .0) _ (g .0 .1 .0) _ (c .numbers-in .result) (c .before .commas-of .ensures) key (c .numbers-in .ensures)
 
-sub-numbers-in : tie.Need-sub-numbers-in
-sub-numbers-in c = inside (c .before)
-
-part-numbers-in-start : tie.Need-part-numbers-in-start
-part-numbers-in-start c = let h = inside (c .before) in search needs
-
 numbers-in-requires : tie.Need-numbers-in-requires
 numbers-in-requires c κs = omega (arith, c .commas-of .ensures, commas-few (c .before .before .before .kind .given .0 .0))
 
@@ -52,8 +46,8 @@ line-in-spec =
     (λ c κs. search needs)
     (λ c. search needs)
     (λ c. search needs)
-    sub-numbers-in
-    part-numbers-in-start
+    (λ c. inside (c .before))
+    (λ c. let h = inside (c .before) in search needs)
     (λ c. search needs)
     (λ c κs. search needs)
     numbers-in-requires

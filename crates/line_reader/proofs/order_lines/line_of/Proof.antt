@@ -28,9 +28,6 @@ turn-jacks c =
     let x = c .before .before .before .before .args .x in
     jacks-within mostPorts (x .first) (x .second) (x .third) (sym (c .if2 .taken) ∙ c .before .all-jacks2 .ensures)
 
-cast-t5 : tie.Need-cast-t5
-cast-t5 c = omega (arith, swap-jacks (c .before))
-
 cast-t7 : tie.Need-cast-t7
 cast-t7 c = omega (arith, swap-jacks (c .before .before))
 
@@ -38,9 +35,6 @@ returns : tie.Need-returns
 returns c =
     let k = c .before .before .before .before .before in
     c .fitted .ensures ∙ of-kind (k .before .before .args .x) (k .enum-told .given .1)
-
-cast-t11 : tie.Need-cast-t11
-cast-t11 c = omega (arith, turn-jacks (c .before))
 
 cast-t13 : tie.Need-cast-t13
 cast-t13 c = omega (arith, turn-jacks (c .before .before))
@@ -83,13 +77,13 @@ line-of-spec =
     (tie.spec
     (λ c. search needs)
     (λ c κs. search needs)
-    cast-t5
+    (λ c. omega (arith, swap-jacks (c .before)))
     cast-t7
     (λ c κs. search needs)
     returns
     (λ c. search needs)
     (λ c κs. search needs)
-    cast-t11
+    (λ c. omega (arith, turn-jacks (c .before)))
     cast-t13
     cast-t15
     (λ c κs. search needs)

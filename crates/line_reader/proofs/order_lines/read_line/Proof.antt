@@ -21,12 +21,6 @@ at-newline c = sym (ap foundIs (c .k .given .1)) ∙ c .before .before .newline-
 inside : (c : tie.After-k) → let a = c .before .before .before .before .args in a .place + c .k .given .0 .0 < length (a .text .now)
 inside c = let a = c .before .before .before .before .args in newline-inside (a .text .now) (a .place) (c .k .given .0 .0) (at-newline c)
 
-add-line-in : tie.Need-add-line-in
-add-line-in c = let h = inside (c .before) in search needs
-
-part-line-in-end : tie.Need-part-line-in-end
-part-line-in-end c = let h = inside (c .before) in search needs
-
 add-answered : tie.Need-add-answered
 add-answered c = let h = inside (c .before .before .before) in search needs
 
@@ -51,10 +45,10 @@ read-line-spec =
     (λ c. search needs)
     (λ c κs. search needs)
     (λ c. search needs)
-    add-line-in
+    (λ c. let h = inside (c .before) in search needs)
     (λ c. search needs)
     (λ c. search needs)
-    part-line-in-end
+    (λ c. let h = inside (c .before) in search needs)
     (λ c κs. search needs)
     add-answered
     add-answered-2

@@ -17,12 +17,6 @@ use Rattle.panel.proofs.lookups.port_at.Tie as tie
 here : (c : tie.After-enum-told) → let a = c .before .before .before .before .args in Among (length (a .panel .now)) (a .jack .0)
 here c = asked mostPorts _ _ (c .before .before .may-ask .ensures) (c .enum-told .given .1) .1
 
-sub-t6 : tie.Need-sub-t6
-sub-t6 c = omega (arith, here (c .before))
-
-shared-slice-read-t9 : tie.Need-shared-slice-read-t9
-shared-slice-read-t9 c = omega (arith, here (c .before .before))
-
 returns : tie.Need-returns
 unfolding portOf
 returns c = let m = c .before .before .before in not-asked mostPorts _ _ (m .may-ask .ensures) _ (c .before .f .given .1)
@@ -40,8 +34,8 @@ port-at-spec =
     (λ c κs. search needs)
     (λ c. search needs)
     (λ c. search needs)
-    sub-t6
+    (λ c. omega (arith, here (c .before)))
     (λ c. search needs)
-    shared-slice-read-t9
+    (λ c. omega (arith, here (c .before .before)))
     returns
     returns-2)

@@ -16,9 +16,6 @@ Inv-loop p t₀ j₀ t j = (j ≤ length p) × (length t ≡ mostPorts) × (take
 abbrev μ-loop : tie.MeasureT-loop
 μ-loop p t₀ j₀ t j = length p - j
 
-loop-holds : tie.Need-loop-holds Inv-loop μ-loop
-loop-holds c = (search needs, refl, refl)
-
 loop-again : tie.Need-loop-again Inv-loop μ-loop
 loop-again c =
     let l = c .before .before in
@@ -33,7 +30,7 @@ load-spec =
     (tie.spec
     Inv-loop
     μ-loop
-    loop-holds
+    (λ c. (search needs, refl, refl))
     (λ c. search needs)
     (λ c. search needs)
     (λ c. search needs)

@@ -15,16 +15,10 @@ Inv-loop out₀ t j₀ out j = (j ≤ length out₀) × (length out ≡ length o
 abbrev μ-loop : tie.MeasureT-loop
 μ-loop out₀ t j₀ out j = length out₀ - j
 
-loop-holds : tie.Need-loop-holds Inv-loop μ-loop
-loop-holds c = (search needs, refl, refl)
-
 loop-again : tie.Need-loop-again Inv-loop μ-loop
 loop-again c =
     let l = c .before in
     (search needs, search needs, copy-stored (l .before .args .t1) (l .loop .out) (l .loop .j) (omega arith) (omega arith) (l .loop .inv .2))
-
-same-length : tie.Need-same-length Inv-loop μ-loop
-same-length c = c .before .loop .inv .1
 
 returns : tie.Need-returns Inv-loop μ-loop
 returns c = let l = c .before in copy-all (l .before .args .t1) (l .loop .out) (l .loop .j) _ (omega arith) (l .loop .inv .1) (l .loop .inv .2)
@@ -35,11 +29,11 @@ store-spec =
     (tie.spec
     Inv-loop
     μ-loop
-    loop-holds
+    (λ c. (search needs, refl, refl))
     (λ c. search needs)
     (λ c. search needs)
     (λ c. search needs)
     (λ c. search needs)
     loop-again
-    same-length
+    (λ c. c .before .loop .inv .1)
     returns)

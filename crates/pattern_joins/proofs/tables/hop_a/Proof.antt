@@ -6,11 +6,5 @@ use Rattle.listing.proofs.Rows.{hopA-one, hopA-more}
 use Rattle.pattern_joins.proofs.tables.hop_a.Statement.{statement}
 use Rattle.pattern_joins.proofs.tables.hop_a.Tie as tie
 
-returns : tie.Need-returns
-returns c = sym (hopA-one _ _ (c .match .keys1))
-
-returns-2 : tie.Need-returns-2
-returns-2 c = sym (hopA-more _ _ (c .match .rest .1))
-
 pub hop-a-spec : {M : Type 1} → statement M
-hop-a-spec = tie.close (tie.spec (λ c. search needs) (λ c. search needs) returns returns-2)
+hop-a-spec = tie.close (tie.spec (λ c. search needs) (λ c. search needs) (λ c. sym (hopA-one _ _ (c .match .keys1))) (λ c. sym (hopA-more _ _ (c .match .rest .1))))

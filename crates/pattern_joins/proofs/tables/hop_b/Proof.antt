@@ -6,11 +6,5 @@ use Rattle.listing.proofs.Rows.{hopB-one, hopB-more}
 use Rattle.pattern_joins.proofs.tables.hop_b.Statement.{statement}
 use Rattle.pattern_joins.proofs.tables.hop_b.Tie as tie
 
-returns : tie.Need-returns
-returns c = sym (hopB-one _ _ (c .match .keys1))
-
-returns-2 : tie.Need-returns-2
-returns-2 c = sym (hopB-more _ _ (c .match .rest .1))
-
 pub hop-b-spec : {M : Type 1} → statement M
-hop-b-spec = tie.close (tie.spec (λ c. search needs) (λ c. search needs) (λ c. search needs) returns returns-2)
+hop-b-spec = tie.close (tie.spec (λ c. search needs) (λ c. search needs) (λ c. search needs) (λ c. sym (hopB-one _ _ (c .match .keys1))) (λ c. sym (hopB-more _ _ (c .match .rest .1))))

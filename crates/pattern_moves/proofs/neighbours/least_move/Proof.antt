@@ -10,12 +10,9 @@ use Rattle.pattern_moves.proofs.neighbours.least_move.Tie as tie
 returns : tie.Need-returns
 returns c = c .closing .ensures ∙ next-of-2 _ _ (c .before .if1 .taken)
 
-returns-2 : tie.Need-returns-2
-returns-2 c = first-of-3 _ _ (omega arith) (c .if2 .taken)
-
 returns-3 : tie.Need-returns-3
 returns-3 c = c .closing2 .ensures ∙ last-of-3 _ _ (omega arith) (c .before .if2 .left)
 
 pub least-move-spec : {M : Type 1} → statement M
 least-move-spec =
-    tie.close (tie.spec (λ c κs. search needs) returns returns-2 (λ c κs. search needs) returns-3)
+    tie.close (tie.spec (λ c κs. search needs) returns (λ c. first-of-3 _ _ (omega arith) (c .if2 .taken)) (λ c κs. search needs) returns-3)

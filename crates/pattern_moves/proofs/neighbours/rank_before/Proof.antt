@@ -9,8 +9,5 @@ use Rattle.pattern_moves.proofs.neighbours.rank_before.Tie as tie
 returns : tie.Need-returns
 returns c = rw (c .count-of .ensures) (before-first _ _ (c .before .if1 .taken))
 
-returns-2 : tie.Need-returns-2
-returns-2 c = before-other _ _ (c .if1 .left)
-
 pub rank-before-spec : {M : Type 1} → statement M
-rank-before-spec = tie.close (tie.spec (λ c κs. search needs) (λ c. omega arith) returns (λ c. search needs) returns-2)
+rank-before-spec = tie.close (tie.spec (λ c κs. search needs) (λ c. omega arith) returns (λ c. search needs) (λ c. before-other _ _ (c .if1 .left)))

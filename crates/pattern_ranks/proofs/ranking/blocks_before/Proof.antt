@@ -9,8 +9,5 @@ use Rattle.pattern_ranks.proofs.ranking.blocks_before.Tie as tie
 returns : tie.Need-returns
 returns c = rw (c .if1 .taken) (less-one (c .before .args .i))
 
-returns-2 : tie.Need-returns-2
-returns-2 c = rw (c .if1 .left) (omega arith)
-
 pub blocks-before-spec : {M : Type 1} → statement M
-blocks-before-spec = tie.close (tie.spec (λ c. search needs) (λ c. search needs) (λ c. search needs) returns returns-2)
+blocks-before-spec = tie.close (tie.spec (λ c. search needs) (λ c. search needs) (λ c. search needs) returns (λ c. rw (c .if1 .left) (omega arith)))

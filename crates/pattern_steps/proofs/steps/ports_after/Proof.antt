@@ -4,12 +4,6 @@ use borrow.Author.Needs.{needs}
 use Rattle.pattern_steps.proofs.steps.ports_after.Statement.{statement}
 use Rattle.pattern_steps.proofs.steps.ports_after.Tie as tie
 
-returns-3 : tie.Need-returns-3
-returns-3 c = rw (c .enum-told3 .given .1)
-
-returns-4 : tie.Need-returns-4
-returns-4 c = rw (c .enum-told4 .given .1)
-
 pub ports-after-spec : {M : Type 1} → statement M
 ports-after-spec =
     tie.close
@@ -22,5 +16,5 @@ ports-after-spec =
     (λ c. search needs)
     (λ c. search needs)
     (λ c. search needs)
-    returns-3
-    returns-4)
+    (λ c. rw (c .enum-told3 .given .1))
+    (λ c. rw (c .enum-told4 .given .1)))

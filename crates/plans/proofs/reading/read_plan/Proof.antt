@@ -45,9 +45,6 @@ value-at-requires-2 c κs = let p = c .before .before in subst (LineWithin _) (p
 cast-read-legs : tie.Need-cast-read-legs
 cast-read-legs c = let k = c .before .before .before .before .before .before in omega (arith, ports-in k)
 
-cast-read-legs-2 : tie.Need-cast-read-legs-2
-cast-read-legs-2 c = omega (arith, legs-in (c .before .before))
-
 read-legs-requires : tie.Need-read-legs-requires
 read-legs-requires c κs =
     let k = c .before .before in
@@ -91,7 +88,7 @@ read-plan-spec =
     (λ c κs. search needs)
     (λ c. search needs)
     cast-read-legs
-    cast-read-legs-2
+    (λ c. omega (arith, legs-in (c .before .before)))
     read-legs-requires
     returns
     returns-2

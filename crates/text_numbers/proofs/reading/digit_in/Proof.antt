@@ -7,14 +7,8 @@ use Rattle.text_numbers.proofs.Inverse.{no-digit, digit-byte}
 use Rattle.text_numbers.proofs.reading.digit_in.Statement.{statement}
 use Rattle.text_numbers.proofs.reading.digit_in.Tie as tie
 
-returns : tie.Need-returns
-returns c = sym (no-digit _ (inl (omega arith)))
-
-returns-2 : tie.Need-returns-2
-returns-2 c = sym (no-digit _ (inr (omega arith)))
-
 returns-3 : tie.Need-returns-3
 returns-3 c = sym (digit-byte _ (omega arith) (omega arith))
 
 pub digit-in-spec : {M : Type 1} → statement M
-digit-in-spec = tie.close (tie.spec returns returns-2 (λ c. search needs) returns-3)
+digit-in-spec = tie.close (tie.spec (λ c. sym (no-digit _ (inl (omega arith)))) (λ c. sym (no-digit _ (inr (omega arith)))) (λ c. search needs) returns-3)

@@ -20,9 +20,6 @@ abbrev μ-loop : tie.MeasureT-loop
 add-k : tie.Need-add-k Inv-loop μ-loop
 add-k c = omega (arith, length-some (c .before .loop .rest), digits-64 (c .before .before .args .n) (search needs))
 
-loop-less : tie.Need-loop-less Inv-loop μ-loop
-loop-less c = fewer-tens _ (c .loop-test .taken)
-
 loop-again : tie.Need-loop-again Inv-loop μ-loop
 loop-again c = omega (arith, length-more (c .before .loop .rest) (c .loop-test .taken))
 
@@ -30,4 +27,4 @@ returns : tie.Need-returns Inv-loop μ-loop
 returns c = omega (arith, length-one (c .before .loop .rest) (c .loop-test .left))
 
 pub places-spec : {M : Type 1} → statement M
-places-spec = tie.close (tie.spec Inv-loop μ-loop (λ c. omega arith) add-k loop-less loop-again returns)
+places-spec = tie.close (tie.spec Inv-loop μ-loop (λ c. omega arith) add-k (λ c. fewer-tens _ (c .loop-test .taken)) loop-again returns)

@@ -40,9 +40,6 @@ sub-bytes c = omega (arith, length-some (c .before .loop .rest))
 array-write-bytes : tie.Need-array-write-bytes Inv-loop μ-loop
 array-write-bytes c = omega (arith, length-some (c .before .loop .rest))
 
-loop-less : tie.Need-loop-less Inv-loop μ-loop
-loop-less c = fewer-tens _ (c .loop-test .taken)
-
 loop-again : tie.Need-loop-again Inv-loop μ-loop
 loop-again c =
     let l = c .before .loop in
@@ -80,7 +77,7 @@ spelt-spec =
     sub-bytes
     array-write-bytes
     (λ c. search needs)
-    loop-less
+    (λ c. fewer-tens _ (c .loop-test .taken))
     loop-again
     (λ c. search needs)
     (λ c. search needs)
