@@ -95,7 +95,7 @@ pub extern "C" fn jidrofex_request(
     ensures bytes { λ _. ⌜ now (buffer .exit) ≡ requestBytes (now (state .entry)) (now (buffer .entry)) ⌝ }
 {
     let held = state_in(state);
-    if held.fit {
+    if held.known {
         let s = held.state;
         let campaign = Campaign { state: s };
         let r = campaign.request(buffer);
@@ -119,7 +119,7 @@ pub extern "C" fn jidrofex_report(
     ensures left { λ _. ⌜ now (state .exit) ≡ calledWords (report kind) (now (state .entry)) ⌝ }
 {
     let held = state_in(state);
-    if held.fit {
+    if held.known {
         let s = held.state;
         let campaign = Campaign { state: s };
         let r = campaign.report(kind);
@@ -144,7 +144,7 @@ pub extern "C" fn jidrofex_orders(
     ensures bytes { λ _. ⌜ now (buffer .exit) ≡ ordersBytes (now (state .entry)) (now (buffer .entry)) ⌝ }
 {
     let held = state_in(state);
-    if held.fit {
+    if held.known {
         let s = held.state;
         let campaign = Campaign { state: s };
         let printed = fill(campaign, buffer);

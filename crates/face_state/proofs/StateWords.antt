@@ -139,11 +139,11 @@ byte-bit false = refl
 
 module _ (h : Held) {o : Option State} (e : heldIs h ≡ o) where
   -- a state that fits is the one that they are
-  pub held-state : h .fit ≡ true → some (h .state) ≡ o
+  pub held-state : h .known ≡ true → some (h .state) ≡ o
   held-state t = ap (λ b. cond b (some (h .state)) none) (sym t) ∙ e
 
   -- else they are none
-  pub held-none : h .fit ≡ false → none ≡ o
+  pub held-none : h .known ≡ false → none ≡ o
   held-none t = ap (λ b. cond b (some (h .state)) none) (sym t) ∙ e
 
 -- words that are a state are 61

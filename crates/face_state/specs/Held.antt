@@ -14,7 +14,7 @@ use Rattle.face_state.specs.declared.Held.{Held}
 
 -- the state, if the words are one
 abbrev pub heldIs : Held → Option State
-heldIs h = cond (h .fit) (some (h .state)) none
+heldIs h = cond (h .known) (some (h .state)) none
 
 -- as many words as a state has, and in each that goes into a smaller field a number that this holds
 pub record WordsFit (ws : List ℕ) : Type 0 where

@@ -31,7 +31,7 @@ ghost use Rattle.face_state.specs.Held.{heldIs, WordsFit};
 
 // Whether words are a state, and that state; all zeros if they are none.
 pub struct Held {
-    pub fit: bool,
+    pub known: bool,
     pub state: State,
 }
 
@@ -146,13 +146,13 @@ pub fn state_in(words: &[u64]) -> Held
 {
     if words_fit(words) {
         return Held {
-            fit: true,
+            known: true,
             state: state_at(words),
         };
     }
     let zeros = [0u64; STATE_WORDS];
     Held {
-        fit: false,
+        known: false,
         state: state_at(&zeros),
     }
 }
