@@ -8,7 +8,7 @@ use Rattle.listing.specs.Count.{count}
 use Rattle.words.specs.Told.{atLine}
 use Rattle.text_keys.specs.Parts.{newline, cut, afterKey}
 use Rattle.plan_rules.specs.Planned.{Limits}
-use Rattle.plan_lines.specs.Field.{lineIn, between, numberIn, Field, fieldIn}
+use Rattle.plan_lines.specs.Field.{lineIn, between, valueIn, Field, fieldIn}
 use Rattle.plans.specs.Reading.{portsField, legsField, startField, runField, legIn, legsIn, planIn}
 use Rattle.demands.specs.One.{OneOf, Refuses}
 use Rattle.demands.proofs.Numbers.{from-accepted, from-refused, from-then, from-need, from-cond}
@@ -22,7 +22,7 @@ unfolding fieldIn lineIn
 field-numbers ns f line t e v z h =
     from-then ns _ _
     (from-then ns _ _ (from-need ns 11 (atLine line) (cut newline t) e) (λ p. from-then ns _ _ (from-need ns 7 (atLine line) (afterKey (f .key) (p .front)) v) (λ w. from-accepted ns _)))
-    (λ p. from-then ns _ _ (from-need ns 8 (atLine line) (numberIn (f .sign) (f .largest) (p .front)) z)
+    (λ p. from-then ns _ _ (from-need ns 8 (atLine line) (valueIn (f .sign) (f .largest) (p .front)) z)
     (λ s. from-cond ns (between (f .low) (f .below) (s .magnitude)) _ _ (from-accepted ns _) (from-refused ns (f .refusal) _ h)))
 
 -- the numbers of a plan, in the paper's order

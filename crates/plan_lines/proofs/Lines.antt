@@ -18,7 +18,7 @@ use Rattle.words.specs.declared.Signed.{Signed}
 use Rattle.text_keys.specs.Parts.{newline, firstOf, begins, Parts}
 use Rattle.text_keys.proofs.Cuts.{first-inside, to-the-end}
 use Rattle.text_keys.proofs.Keys.{key-room}
-use Rattle.plan_lines.specs.Field.{lineIn, between, numberIn, Field, fieldIn}
+use Rattle.plan_lines.specs.Field.{lineIn, between, valueIn, Field, fieldIn}
 use Rattle.plan_lines.specs.Places.{part}
 
 -- ---- parts of a text
@@ -110,11 +110,11 @@ module _ (f : Field) (line : ℕ) (t : List ℕ) where
 
   module _ (p : Parts) (e : accepted p ≡ lineIn (f .key) line t) where
     -- no number: 8
-    pub no-number : none ≡ numberIn (f .sign) (f .largest) (p .front) → refused 8 (atLine line) ≡ fieldIn f line t
+    pub no-number : none ≡ valueIn (f .sign) (f .largest) (p .front) → refused 8 (atLine line) ≡ fieldIn f line t
     unfolding fieldIn
     no-number g = rw (sym e, sym g)
 
-    module _ (s : Signed) (g : some s ≡ numberIn (f .sign) (f .largest) (p .front)) where
+    module _ (s : Signed) (g : some s ≡ valueIn (f .sign) (f .largest) (p .front)) where
       -- a good value
       pub value-taken : true ≡ between (f .low) (f .below) (s .magnitude) → accepted (record { value = s; rest = p .rest }) ≡ fieldIn f line t
       unfolding fieldIn

@@ -17,7 +17,7 @@ use Rattle.text_numbers.specs.Signed.{minus, signedDigits, plain}
 use Rattle.text_numbers.proofs.Inverse.{none-some}
 use Rattle.text_numbers.proofs.Limits.{number-up-to, digits-up-to}
 use Rattle.text_numbers.proofs.Signed.{signed-of-digits, digits-of-signed}
-use Rattle.plan_lines.specs.Field.{fieldText, numberIn, Field, Got, fieldIn, unsigned}
+use Rattle.plan_lines.specs.Field.{fieldText, valueIn, Field, Got, fieldIn, unsigned}
 use Rattle.plan_lines.proofs.OneLine.{field-accepted, field-text}
 
 -- ---- a number and its text, whether a sign may stand or not
@@ -43,11 +43,11 @@ text-plain largest v none s e f = absurd (none-some s f)
 text-plain largest v (some n) s e f =
     let g : ahead n ≡ s = cc in rw (sym g) (digits-up-to largest v n e .0, λ b. absurd (true≢false (sym b)))
 
-number-of-text : (sign : Bool) (largest : ℕ) (s : Signed) → Sayable sign s → s .magnitude ≤ largest → numberIn sign largest (signedDigits s) ≡ some s
+number-of-text : (sign : Bool) (largest : ℕ) (s : Signed) → Sayable sign s → s .magnitude ≤ largest → valueIn sign largest (signedDigits s) ≡ some s
 number-of-text true largest s p h = signed-of-digits largest s (λ b. p b .1) h
 number-of-text false largest s p h = plain-text largest (s .back) (s .magnitude) p h
 
-text-of-number : (sign : Bool) (largest : ℕ) (v : List ℕ) (s : Signed) → numberIn sign largest v ≡ some s → (v ≡ signedDigits s) × Sayable sign s
+text-of-number : (sign : Bool) (largest : ℕ) (v : List ℕ) (s : Signed) → valueIn sign largest v ≡ some s → (v ≡ signedDigits s) × Sayable sign s
 text-of-number true largest v s e = let d = digits-of-signed largest v s e in (d .text, λ b. (refl, d .proper b))
 text-of-number false largest v s e = text-plain largest v (numberUpTo largest v) s refl e
 

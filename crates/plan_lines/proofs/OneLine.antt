@@ -13,7 +13,7 @@ use Rattle.words.proofs.Told.{accepted-once, need-accepted, then-accepted}
 use Rattle.text_keys.specs.Parts.{newline, firstOf, Parts, cut, afterKey}
 use Rattle.text_keys.proofs.Cuts.{cut-joined, cut-parts}
 use Rattle.text_keys.proofs.Keys.{after-key, key-after}
-use Rattle.plan_lines.specs.Field.{fieldText, passed, lineIn, between, numberIn, Field, Got, fieldIn}
+use Rattle.plan_lines.specs.Field.{fieldText, passed, lineIn, between, valueIn, Field, Got, fieldIn}
 use Rattle.plan_lines.proofs.Lines.{good-value, value-good}
 
 -- ---- accepted steps
@@ -29,7 +29,7 @@ passed-accepted k line false x a e = absurd (true≢false (cc))
 pub record FieldOf (f : Field) (t : List ℕ) (g : Got Signed) : Type 0 where
   pub value : List ℕ
   pub whole : t ≡ fieldText (f .key) value ++ g .rest
-  pub number : numberIn (f .sign) (f .largest) value ≡ some (g .value)
+  pub number : valueIn (f .sign) (f .largest) value ≡ some (g .value)
   pub low : f .low ≤ g .value .magnitude
   pub below : g .value .magnitude < f .below
 
@@ -59,20 +59,20 @@ module _ (f : Field) (line : ℕ) where
   field-accepted t g e =
       let b = then-accepted (lineIn (f .key) line t) _ g e in
       let p = b .first in
-      let n = then-accepted (need 8 (atLine line) (numberIn (f .sign) (f .largest) (p .front))) _ g (b .on) in
+      let n = then-accepted (need 8 (atLine line) (valueIn (f .sign) (f .largest) (p .front))) _ g (b .on) in
       let v = passed-accepted (f .refusal) line (between (f .low) (f .below) (n .first .magnitude)) _ g (n .on) in
       let r = value-good (f .low) (f .below) (n .first .magnitude) (v .0) in
       rw (sym (v .1))
       (record {
         value = p .front;
         whole = line-accepted t p (b .taken);
-        number = need-accepted 8 (atLine line) (numberIn (f .sign) (f .largest) (p .front)) (n .first) (n .taken);
+        number = need-accepted 8 (atLine line) (valueIn (f .sign) (f .largest) (p .front)) (n .first) (n .taken);
         low = r .0;
         below = r .1;
       })
 
   -- and every such text is accepted
-  pub field-text : (v rest : List ℕ) (a : Signed) → firstOf newline (f .key ++ v) ≡ none → numberIn (f .sign) (f .largest) v ≡ some a → f .low ≤ a .magnitude → a .magnitude < f .below
+  pub field-text : (v rest : List ℕ) (a : Signed) → firstOf newline (f .key ++ v) ≡ none → valueIn (f .sign) (f .largest) v ≡ some a → f .low ≤ a .magnitude → a .magnitude < f .below
       → fieldIn f line (fieldText (f .key) v ++ rest) ≡ accepted (record { value = a; rest = rest })
   unfolding fieldIn lineIn
   field-text v rest a clear number low below =

@@ -30,8 +30,8 @@ unfoldable pub between : ℕ → ℕ → ℕ → Bool
 between low below n = leb low n && ltb n below
 
 -- the number that a text is: with `-` before it only where a sign may stand
-abbrev pub numberIn : Bool → ℕ → List ℕ → Option Signed
-numberIn sign largest t = cond sign (signedUpTo largest t) (plain (numberUpTo largest t))
+abbrev pub valueIn : Bool → ℕ → List ℕ → Option Signed
+valueIn sign largest t = cond sign (signedUpTo largest t) (plain (numberUpTo largest t))
 
 -- a kind of line: its key, whether a sign may stand, the largest number of the device, which magnitudes are good, and the refusal of any other
 pub record Field : Type 0 where
@@ -51,7 +51,7 @@ pub record Got (A : Type 0) : Type 0 where
 unfoldable pub fieldIn : Field → ℕ → List ℕ → Told (Got Signed)
 fieldIn f line t =
     then (lineIn (f .key) line t)
-    (λ p. then (need 8 (atLine line) (numberIn (f .sign) (f .largest) (p .front)))
+    (λ p. then (need 8 (atLine line) (valueIn (f .sign) (f .largest) (p .front)))
     (λ s. passed (f .refusal) line (between (f .low) (f .below) (s .magnitude)) (record { value = s; rest = p .rest })))
 
 -- a line with a number, and a line with a signed number

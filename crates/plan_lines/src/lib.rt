@@ -15,7 +15,7 @@ ghost use Prim.Native.Nat.{_≤_};
 ghost use lib.ListN.{length, drop};
 ghost use Rattle.listing.specs.Limits.{largest64};
 ghost use Rattle.text_numbers.specs.Answers.{signedIs};
-ghost use Rattle.plan_lines.specs.Field.{lineIn, between, numberIn, fieldIn};
+ghost use Rattle.plan_lines.specs.Field.{lineIn, between, valueIn, fieldIn};
 ghost use Rattle.plan_lines.specs.Places.{fieldOf, boundsTold, BoundsWithin, lineTold, LineWithin};
 
 // The values that a line may have: with `-` before them or not, from low on and below `below`. Any other is refused.
@@ -67,8 +67,8 @@ fn line_at(text: &[u8], at: usize, key: &[u8], line: u8) -> Bounds
 }
 
 // The number that a text is: with `-` before it only where a sign may stand.
-fn number_in(t: &[u8], sign: bool) -> ReadSigned
-    ensures { λ r. ⌜ signedIs r ≡ numberIn sign largest64 (now (t .entry)) ⌝ }
+fn value_in(t: &[u8], sign: bool) -> ReadSigned
+    ensures { λ r. ⌜ signedIs r ≡ valueIn sign largest64 (now (t .entry)) ⌝ }
 {
     if sign {
         read_signed(t)
@@ -85,7 +85,7 @@ pub fn value_at(text: &[u8], at: usize, key: &[u8], values: Values, line: u8) ->
 {
     match line_at(text, at, key, line) {
         Bounds::Refused(f) => LineRead::Refused(f),
-        Bounds::Value(from, to) => match number_in(&text[from..to], values.sign) {
+        Bounds::Value(from, to) => match value_in(&text[from..to], values.sign) {
             ReadSigned::Bad => LineRead::Refused(at_line(Reason::Number, line)),
             ReadSigned::Number(s) => {
                 if good(values, s.magnitude) {

@@ -37,7 +37,7 @@ returns c =
     let d = c .before .before .before in
     let k = d .before .before .before .before in
     let a = k .before .before .before .before .before .before .args in
-    let g = sym (ap signedIs (d .s .given .1)) ∙ d .before .before .number-in .ensures in
+    let g = sym (ap signedIs (d .s .given .1)) ∙ d .before .before .value-in .ensures in
     let h = sym (c .if1 .taken) ∙ c .before .good2 .ensures in
     (value-taken (fieldOf largest64 (a .key .now) (a .values)) (a .line) (drop (a .at) (a .text .now)) _ (found k) _ g h, omega (arith, within k))
 
@@ -53,7 +53,7 @@ returns-3 c =
     let d = c .before in
     let k = d .before .before .before .before in
     let a = k .before .before .before .before .before .before .args in
-    let g = sym (ap signedIs (d .enum-told .given .1)) ∙ d .before .before .number-in .ensures in
+    let g = sym (ap signedIs (d .enum-told .given .1)) ∙ d .before .before .value-in .ensures in
     let told : refusalOf {A = Got Signed} (c .at-line .result) ≡ refused 8 (atLine (a .line)) = ap refusalOf (c .at-line .ensures) in
     (told ∙ no-number (fieldOf largest64 (a .key .now) (a .values)) (a .line) (drop (a .at) (a .text .now)) _ (found k) g, tt)
 
@@ -63,7 +63,7 @@ returns-4 c =
     let d = i .before .before .before in
     let k = d .before .before .before .before in
     let a = k .before .before .before .before .before .before .args in
-    let g = sym (ap signedIs (d .s .given .1)) ∙ d .before .before .number-in .ensures in
+    let g = sym (ap signedIs (d .s .given .1)) ∙ d .before .before .value-in .ensures in
     let h = sym (i .if1 .left) ∙ i .before .good2 .ensures in
     let told : refusalOf {A = Got Signed} (c .at-line2 .result) ≡ refused (numberOf (a .values .reason)) (atLine (a .line)) = ap refusalOf (c .at-line2 .ensures) in
     (told ∙ value-refused (fieldOf largest64 (a .key .now) (a .values)) (a .line) (drop (a .at) (a .text .now)) _ (found k) _ g h, tt)
