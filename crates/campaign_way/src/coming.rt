@@ -14,6 +14,7 @@ use words::Move;
 use words::Order;
 use words::Outcome;
 use words::Port;
+use words::limits::LONGEST;
 ghost use mathlib.Core.Path.{_≡_};
 ghost use mathlib.Core.Bool.{cond};
 ghost use mathlib.Core.Option.{none, some};
@@ -33,7 +34,7 @@ ghost use Rattle.plan_rules.specs.Rules.{legIs};
 ghost use Rattle.campaign_way.specs.Coming.{nextOf, orNext, comingIs};
 
 // The next order of the carriage from p to t: at the first wrong jack, swap with the jack that holds the wanted port.
-fn carriage_next(n: u8, p: [u8; 20], t: [u8; 20]) -> ToCome
+fn carriage_next(n: u8, p: [u8; LONGEST], t: [u8; LONGEST]) -> ToCome
     requires { ⌜ (n ≤ mostPorts) × Permutation n (take n p) × Permutation n (take n t) ⌝ }
     ensures { λ r. ⌜ comingIs r ≡ nextOf (some (carriage (take n p) (take n t))) ⌝ }
 {
@@ -47,7 +48,7 @@ fn carriage_next(n: u8, p: [u8; 20], t: [u8; 20]) -> ToCome
 }
 
 // Before a leg's first mark: the carriage from any permutation to the pattern of its rank.
-fn before_first(n: u8, l: Leg, q: [u8; 20]) -> ToCome
+fn before_first(n: u8, l: Leg, q: [u8; LONGEST]) -> ToCome
     requires { ⌜ (2 ≤ n) × (n ≤ mostPorts) × (l .start < count n) ⌝ }
     ensures { λ r. ⌜ comingIs r ≡ nextOf (toCome (derangements n) (legIs l) 0 (take n q)) ⌝ }
 {
@@ -59,7 +60,7 @@ fn before_first(n: u8, l: Leg, q: [u8; 20]) -> ToCome
 }
 
 // Nothing is to come from p where the panel is p.
-fn arrived(n: u8, p: [u8; 20], q: [u8; 20]) -> ToCome
+fn arrived(n: u8, p: [u8; LONGEST], q: [u8; LONGEST]) -> ToCome
     requires { ⌜ n ≤ mostPorts ⌝ }
     ensures { λ r. ⌜ comingIs r ≡ nextOf (rest (take n p) [] (take n q)) ⌝ }
 {
@@ -71,7 +72,7 @@ fn arrived(n: u8, p: [u8; 20], q: [u8; 20]) -> ToCome
 }
 
 // What was found further on the way; else the order o where the panel is p.
-fn or_next(found: ToCome, n: u8, p: [u8; 20], o: Order, q: [u8; 20]) -> ToCome
+fn or_next(found: ToCome, n: u8, p: [u8; LONGEST], o: Order, q: [u8; LONGEST]) -> ToCome
     requires { ⌜ n ≤ mostPorts ⌝ }
     ensures { λ r. ⌜ comingIs r ≡ orNext (comingIs found) (cond (same (take n p) (take n q)) (some (some (orderOf o))) none) ⌝ }
 {
@@ -89,7 +90,7 @@ fn or_next(found: ToCome, n: u8, p: [u8; 20], o: Order, q: [u8; 20]) -> ToCome
 }
 
 // On the way of a move from p.
-fn on_the_way(n: u8, p: [u8; 20], m: Move, q: [u8; 20]) -> ToCome
+fn on_the_way(n: u8, p: [u8; LONGEST], m: Move, q: [u8; LONGEST]) -> ToCome
     requires { ⌜ (n ≤ mostPorts) × InForm n (moveOf m) ⌝ }
     ensures { λ r. ⌜ comingIs r ≡ nextOf (rest (take n p) (orders (moveOf m)) (take n q)) ⌝ }
 {
@@ -113,7 +114,7 @@ fn on_the_way(n: u8, p: [u8; 20], m: Move, q: [u8; 20]) -> ToCome
 }
 
 // What is to come before the mark at step k of a leg, when the panel is q.
-pub fn coming(n: u8, l: Leg, k: u64, q: [u8; 20]) -> ToCome
+pub fn coming(n: u8, l: Leg, k: u64, q: [u8; LONGEST]) -> ToCome
     requires { ⌜ (2 ≤ n) × (n ≤ mostPorts) × (l .start < count n) × (k < count n) ⌝ }
     ensures { λ r. ⌜ comingIs r ≡ nextOf (toCome (derangements n) (legIs l) k (take n q)) ⌝ }
 {
