@@ -6,11 +6,10 @@ use Prim.Native.Nat.{ℕ, _≤_}
 use native.Mathlib.Omega.{arith}
 use Rattle.listing.specs.Limits.{mostPorts, mostLegs}
 use Rattle.words.specs.Told.{Told, accepted, refused}
-use Rattle.plan_rules.specs.Places.{placed}
+use Rattle.plan_rules.specs.Places.{placed, heldOf}
 use Rattle.plans.specs.Calls.{readPlanOf}
 use Rattle.plans.proofs.Plans.{accepted-fits}
 use Rattle.plan_rules.specs.Planned.{Planned, device}
-use Rattle.plan_rules.specs.Places.{heldOf}
 
 -- it has no more ports than the device: an accepted plan fits, and a refused text leaves zeros
 pub held-ports : (t : List ℕ) → heldOf mostLegs (readPlanOf t) .ports ≤ mostPorts

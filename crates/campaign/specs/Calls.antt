@@ -1,17 +1,18 @@
 -- What each call tells, which state it leaves and which bytes, for accepted and refused calls alike (the paper, 'The campaign'). The model of `promise`
 -- decides, on states whose plan and unused places are within the rules; any other state is refused with 15.
 -- Assumes nothing.
-use Prim.Native.Nat.{ℕ, _-_}
+use Prim.Native.Nat.{ℕ}
 use mathlib.Core.Bool.{false, cond}
 use mathlib.Core.List.{List, _++_}
 use lib.Dec.{ltb}
-use lib.ListN.{length, drop, replicate}
+use lib.ListN.{length, drop}
 use Rattle.listing.specs.Ends.{home}
 use Rattle.listing.specs.Limits.{mostPorts, mostLegs}
 use Rattle.words.specs.Meaning.{orderOf}
 use Rattle.words.specs.declared.Line.{Line}
 use Rattle.words.specs.declared.Line.the-variants.{Movement, Mark, End}
 use Rattle.words.specs.Told.{Told, accepted, refused, nowhere}
+use Rattle.words.specs.Padded.{padded}
 use Rattle.plan_rules.specs.Places.{heldOf}
 use Rattle.plans.specs.Calls.{readPlanOf}
 use Rattle.plan_rules.specs.declared.Plan.{Plan}
@@ -67,7 +68,7 @@ roomed room a = cond (ltb room (width a)) (refusal 2) a
 abbrev pub firstState : Plan → State
 firstState p = record {
   plan = p;
-  panel = home (p .ports) ++ replicate (mostPorts - p .ports) 0;
+  panel = padded mostPorts 0 (home (p .ports));
   leg = 0;
   step = 0;
   covered = 0;

@@ -1,14 +1,13 @@
 -- The state that an accepted text leaves: its plan and unused places are within the rules (`begun-kept`), its campaign is that of the plan (`begun-setting`)
--- and its moment the first one (`begun-moment`). The plan's family is lawful and the model accepts its legs. At the front, places beyond a list.
+-- and its moment the first one (`begun-moment`). The plan's family is lawful and the model accepts its legs.
 -- Assumes nothing.
 use mathlib.Core.Path.{_≡_, refl, sym, ap, subst, _∙_}
 use mathlib.Core.Bool.{true, false, and-eq-true-iff}
-use mathlib.Core.List.{List, [], _∷_, _++_, map}
-use Prim.Native.Nat.{ℕ, zero, suc, _-_, _≤_, _<_}
+use mathlib.Core.List.{List, map}
+use Prim.Native.Nat.{ℕ, _≤_, _<_}
 use native.Mathlib.Omega.{arith}
 use lib.IntN.{ℤ, pos}
-use lib.ListN.{length, getD, take, replicate, length-append, length-map}
-use lib.Seq.{take-append-seam}
+use lib.ListN.{length, length-map}
 use Rattle.listing.specs.Count.{count}
 use Rattle.listing.specs.Ends.{home}
 use Rattle.listing.specs.Limits.{mostPorts, mostLegs}
@@ -19,7 +18,9 @@ use Rattle.promise.specs.Derangements.{derangements, onPorts}
 use Rattle.promise.proofs.Circuit.{circuit-accepts}
 use Rattle.promise.proofs.Derangements.{lawful-on, circuit-on}
 use Rattle.words.specs.Signs.{withSign}
-use Rattle.plan_rules.specs.Places.{placed}
+use Rattle.words.specs.Padded.{padded}
+use Rattle.words.proofs.Padded.{padded-room, padded-front, padded-beyond}
+use Rattle.plan_rules.specs.Places.{placed, heldOf, plannedOf}
 use Rattle.plan_rules.specs.declared.Plan.{Plan}
 use Rattle.plans.proofs.Plans.{accepted-fits}
 use Rattle.plan_rules.specs.Rules.{planRuled}
@@ -29,24 +30,9 @@ use Rattle.campaign_state.specs.Fitness.{emptyFrom, placesFit}
 use Rattle.campaign_state.proofs.Places.{tells-empty}
 use Rattle.campaign.specs.Calls.{firstState}
 use Rattle.plan_rules.specs.Planned.{Planned, runOf, Fits, device}
-use Rattle.plan_rules.specs.Places.{heldOf, plannedOf}
 use Rattle.plan_rules.proofs.Held.{each-fits, held-planned, held-places}
 use Rattle.campaign_reached.specs.Turns.{AcceptedPlan, campaignOf, begun}
 use Rattle.campaign_reached.proofs.Kept.{Kept}
-
--- ---- places beyond a list
-
--- zeros are 0 everywhere
-zeros : {A : Type 0} (z : A) (k i : ℕ) → getD (replicate k z) i z ≡ z
-zeros z zero i = refl
-zeros z (suc k) zero = refl
-zeros z (suc k) (suc i) = zeros z k i
-
--- and so they are behind a list
-zeros-behind : {A : Type 0} (z : A) (l : List A) (k i : ℕ) → length l ≤ i → getD (l ++ replicate k z) i z ≡ z
-zeros-behind z [] k i h = zeros z k i
-zeros-behind z (x ∷ l) k zero h = absurd (omega arith)
-zeros-behind z (x ∷ l) k (suc i) h = zeros-behind z l k i (omega arith)
 
 -- home has as many jacks as there are ports
 length-home : (n : ℕ) → length (home n) ≡ n
@@ -81,15 +67,15 @@ module _ (p : Planned) (f : Fits device p) where
       tells-ruled device held (places .0) (places .1) .1 (record {
         fits = subst (Fits device) (sym holds) f;
         legs = few;
-        starts = λ i h k. zeros-behind 0 starts (mostLegs - length starts) i (omega arith);
-        runs = λ i h k. zeros-behind (pos 0) runs (mostLegs - length runs) i (omega arith);
+        starts = λ i h k. padded-beyond mostLegs 0 starts i (omega arith);
+        runs = λ i h k. padded-beyond mostLegs (pos 0) runs i (omega arith);
       })
 
   -- the panel is 0 beyond the ports
   empty-places : emptyFrom (held .ports) (firstState held .panel) ≡ true
   unfolding placed
-  empty-places = tells-empty (p .ports) (home (p .ports) ++ replicate (mostPorts - p .ports) 0) .1
-      (λ i h k. zeros-behind 0 (home (p .ports)) (mostPorts - p .ports) i (omega (arith, length-home (p .ports))))
+  empty-places = tells-empty (p .ports) (padded mostPorts 0 (home (p .ports))) .1
+      (λ i h k. padded-beyond mostPorts 0 (home (p .ports)) i (omega (arith, length-home (p .ports))))
 
   -- so the first state is within the rules
   first-fit : placesFit (firstState held) ≡ true
@@ -105,13 +91,12 @@ module _ (p : Planned) (f : Fits device p) where
   unfolding first derangements
   first-moment =
       let n : ℕ = held .ports in
-      let e : take n (home n ++ replicate (mostPorts - n) 0) ≡ home n =
-      ap (λ k. take k (home n ++ replicate (mostPorts - n) 0)) (sym (length-home n)) ∙ take-append-seam (home n) (replicate (mostPorts - n) 0) in
-      ap (λ q. record { panel = q; leg = 0; step = 0; covered = 0; opened = 0; errors = 0; standing = false; ended = false }) e
+      ap (λ q. record { panel = q; leg = 0; step = 0; covered = 0; opened = 0; errors = 0; standing = false; ended = false })
+      (padded-front mostPorts n 0 (home n) (length-home n))
 
   -- its panel has a place for each port
   first-room : held .ports ≤ length (firstState held .panel)
-  first-room = omega (arith, length-home (held .ports), length-append (home (held .ports)) (replicate (mostPorts - held .ports) 0))
+  first-room = omega (arith, length-home (held .ports), padded-room mostPorts 0 (home (held .ports)))
 
 -- ---- the state that an accepted text leaves
 

@@ -5,9 +5,8 @@ use mathlib.Core.Bool.{Bool, true, false, cond, true≢false}
 use mathlib.Core.List.{List}
 use mathlib.Core.Option.{Option, none, some}
 use Prim.Native.Nat.{ℕ}
-use lib.Dec.{leb}
 use Rattle.words.specs.Told.{Told, Spot, accepted, refused, then, need, leaves}
-use Rattle.pattern_check.specs.Calls.{sized}
+use Rattle.pattern_check.specs.Calls.{inSize, sized}
 use Rattle.promise.specs.Campaign.{Answer, refusal}
 use Rattle.demands.specs.One.{OneOf, Refuses, Keeps, RefusesAs}
 
@@ -37,8 +36,7 @@ module _ (ns : List ℕ) where
   -- 2 to `most` ports
   pub from-sized : {A : Type 0} (most n : ℕ) (t : Told A) → OneOf ns 1 → Refuses ns t → Refuses ns (sized most n t)
   unfolding sized
-  from-sized most n t one h =
-      from-cond (leb 2 n) _ _ (from-cond (leb n most) t _ h (from-refused 1 _ one)) (from-refused 1 _ one)
+  from-sized most n t one h = from-cond (inSize most n) t _ h (from-refused 1 _ one)
 
   -- a test of the campaign's
   pub answer-cond : (b : Bool) (x y : Answer) → RefusesAs ns x → RefusesAs ns y → RefusesAs ns (cond b x y)

@@ -18,7 +18,7 @@ use Rattle.promise.specs.Campaign as model
 use Rattle.promise.specs.Fitness.{Fit, Why, noRoom}
 use Rattle.promise.proofs.Steps.{Does, moves-on, hands-out, ends, closes, errs, refuses}
 use Rattle.promise.proofs.Refusals.{tells-refusal}
-use Rattle.plan_rules.specs.Places.{placed}
+use Rattle.plan_rules.specs.Places.{placed, heldOf}
 use Rattle.plans.specs.Calls.{readPlanOf}
 use Rattle.plan_rules.specs.Rules.{planRuled}
 use Rattle.campaign_state.specs.State.{momentOf}
@@ -29,7 +29,6 @@ use Rattle.campaign_reached.specs.Turns.{AcceptedPlan, campaignOf, begun, Calle
 use Rattle.campaign_reached.proofs.Kept.{answer-on}
 use Rattle.campaign_reached.proofs.Reached.{does-there, reached-after}
 use Rattle.campaign_reached.proofs.Room.{offer-45}
-use Rattle.plan_rules.specs.Places.{heldOf}
 
 -- ---- 15
 

@@ -1,7 +1,7 @@
 -- Runs and their 64 bits: each is read back from the other (`run-back`, `bits-back`), and what the code has of them.
 -- Assumes nothing.
 use mathlib.Core.Path.{_≡_, refl, sym, ap, subst, _∙_}
-use mathlib.Core.Bool.{true, false, true≢false}
+use mathlib.Core.Bool.{true, false}
 use mathlib.Core.List.{List, [], _∷_, map}
 use Prim.Native.Nat.{ℕ, zero, suc, _-_, _≤_, _<_}
 use native.Mathlib.Nat.{zero-add}
@@ -15,26 +15,27 @@ use mir.ValLaws.{toZ-pos, toZ-ofZ}
 use borrow.Author.Tests.{lt-ltb, le-ltb, ltb-true, ltb-false}
 use Rattle.listing.specs.Limits.{largest64}
 use Rattle.listing.proofs.Numbers.{either, test}
-use Rattle.words.specs.Signs.{bySign}
+use Rattle.words.specs.Signs.{bySign, signedLimit}
 use Rattle.words.specs.declared.Signed.{Signed}
-use Rattle.face_state.specs.States.{runBits, firstBack, runIn}
+use Rattle.words.proofs.BySign.{goes-on, goes-back}
+use Rattle.face_state.specs.States.{runBits, runIn}
 
 -- ---- back and forth
 
 -- the run of a run's bits is that run
 pub run-back : (z : ℤ) → SFits w64 z → runIn (runBits z) ≡ z
 unfolding runIn
-run-back (pos n) f = rw (lt-ltb n firstBack (f .sfits)) refl
+run-back (pos n) f = rw (lt-ltb n signedLimit (f .sfits)) refl
 run-back (negsuc n) f =
     let h = f .sfits in
     let back : largest64 - (largest64 - n) ≡ n = omega arith in
-    rw (le-ltb (largest64 - n) firstBack (omega arith), back) refl
+    rw (le-ltb (largest64 - n) signedLimit (omega arith), back) refl
 
 -- the bits of a word's run are that word
 pub bits-back : (w : ℕ) → w ≤ largest64 → runBits (runIn w) ≡ w
 unfolding runIn
 bits-back w h =
-    either (test (ltb w firstBack))
+    either (test (ltb w signedLimit))
     (λ t. rw t refl)
     (λ t. let back : largest64 - (largest64 - w) ≡ w = omega arith in rw (t, back) refl)
 
@@ -57,9 +58,9 @@ bits-fit (negsuc n) f = omega arith
 pub run-fits : (w : ℕ) → w ≤ largest64 → SFits w64 (runIn w)
 unfolding runIn
 run-fits w h =
-    either (test (ltb w firstBack))
-    (λ t. rw t (record { sfits = ltb-true w firstBack t }))
-    (λ t. let l = ltb-false w firstBack t in rw t (record { sfits = omega arith }))
+    either (test (ltb w signedLimit))
+    (λ t. rw t (record { sfits = ltb-true w signedLimit t }))
+    (λ t. let l = ltb-false w signedLimit t in rw t (record { sfits = omega arith }))
 
 -- ---- what the code computes
 
@@ -70,18 +71,18 @@ minus-one (suc n) = ap (λ k. negsuc (suc k)) (zero-add n)
 
 module _ (w : ℕ) where
   -- below 2^63 the word as it is
-  pub ahead-in : w < firstBack → toZ w64 w ≡ runIn w
+  pub ahead-in : w < signedLimit → toZ w64 w ≡ runIn w
   unfolding runIn
-  ahead-in h = toZ-pos w64 w h ∙ rw (lt-ltb w firstBack h) refl
+  ahead-in h = toZ-pos w64 w h ∙ rw (lt-ltb w signedLimit h) refl
 
-  module _ (h : w ≤ largest64) (b : firstBack ≤ w) where
+  module _ (h : w ≤ largest64) (b : signedLimit ≤ w) where
     -- else -1 less what is missing to the largest
     less : negsuc 0 -ℤ toZ w64 (largest64 - w) ≡ runIn w
     unfolding runIn
     less =
         ap (λ z. negsuc 0 -ℤ z) (toZ-pos w64 (largest64 - w) (omega arith))
         ∙ minus-one (largest64 - w)
-        ∙ rw (le-ltb w firstBack b) refl
+        ∙ rw (le-ltb w signedLimit b) refl
 
     pub behind-sub : SFits w64 (negsuc 0 -ℤ toZ w64 (largest64 - w))
     behind-sub = subst (SFits w64) (sym less) (run-fits w h)
@@ -90,14 +91,15 @@ module _ (w : ℕ) where
     behind-in = ap (λ z. toZ w64 (ofZ w64 z)) less ∙ toZ-ofZ w64 (runIn w) (run-fits w h)
 
 -- the bits of a run, by its sign
-pub bits-on : (s : Signed) (z : ℤ) → s ≡ bySign z → s .back ≡ false → s .magnitude ≡ runBits z
-bits-on s (pos n) e b = ap (λ x. x .magnitude) e
-bits-on s (negsuc n) e b = absurd (true≢false (sym (ap (λ x. x .back) e) ∙ b))
+module _ {s : Signed} (z : ℤ) (e : s ≡ bySign z) where
+  pub bits-on : s .back ≡ false → s .magnitude ≡ runBits z
+  bits-on b = ap runBits (goes-on z e b)
 
-pub some-back : (s : Signed) (z : ℤ) → s ≡ bySign z → s .back ≡ true → 1 ≤ s .magnitude
-some-back s (pos n) e b = absurd (true≢false (sym b ∙ ap (λ x. x .back) e))
-some-back s (negsuc n) e b = let m : s .magnitude ≡ suc n = ap (λ x. x .magnitude) e in omega arith
+  pub some-back : s .back ≡ true → 1 ≤ s .magnitude
+  some-back b = omega (arith, goes-back z e b .one-more)
 
-pub bits-behind : (s : Signed) (z : ℤ) → s ≡ bySign z → s .back ≡ true → largest64 - (s .magnitude - 1) ≡ runBits z
-bits-behind s (pos n) e b = absurd (true≢false (sym b ∙ ap (λ x. x .back) e))
-bits-behind s (negsuc n) e b = let m : s .magnitude ≡ suc n = ap (λ x. x .magnitude) e in omega arith
+  pub bits-back-by : s .back ≡ true → largest64 - (s .magnitude - 1) ≡ runBits z
+  bits-back-by b =
+      let g = goes-back z e b in
+      let less : s .magnitude - 1 ≡ g .less = omega (arith, g .one-more) in
+      ap (λ m. largest64 - m) less ∙ ap runBits (g .is)

@@ -8,6 +8,7 @@ use lib.Dec.{eqb, leb, ltb}
 use lib.IntN.{ℤ, pos, negsuc}
 use lib.ListN.{getD, take, drop, replicate}
 use Rattle.listing.specs.Limits.{mostPorts, mostLegs, largest64}
+use Rattle.words.specs.Signs.{signedLimit}
 use Rattle.campaign_state.specs.declared.State.{State}
 use Rattle.face_values.specs.Lines.{largest8}
 
@@ -70,11 +71,8 @@ runBits (pos n) = n
 runBits (negsuc n) = largest64 - n
 
 -- the run of these bits: from 2^63 on it is negative
-abbrev pub firstBack : ℕ
-firstBack = 9223372036854775808
-
 unfoldable pub runIn : ℕ → ℤ
-runIn w = cond (ltb w firstBack) (pos w) (negsuc (largest64 - w))
+runIn w = cond (ltb w signedLimit) (pos w) (negsuc (largest64 - w))
 
 -- '1 while a mark stands, else 0'
 abbrev pub bit : Bool → ℕ

@@ -4,7 +4,6 @@ pub mod places;
 use crate::places::COVERED;
 use crate::places::ENDED;
 use crate::places::ERRORS;
-use crate::places::FIRST_BACK;
 use crate::places::LARGEST32;
 use crate::places::LEG;
 use crate::places::LEGS;
@@ -22,6 +21,7 @@ use plan_rules::Plan;
 use words::limits::LARGEST;
 use words::limits::LEG_PLACES;
 use words::limits::LONGEST;
+use words::limits::SIGNED_LIMIT;
 use words::signs::by_sign;
 ghost use mathlib.Core.Path.{_≡_};
 ghost use Prim.Native.Nat.{_<_};
@@ -81,7 +81,7 @@ fn words_fit(words: &[u64]) -> bool
 fn run_in(w: u64) -> i64
     ensures { λ r. ⌜ r ≡ runIn w ⌝ }
 {
-    if w < FIRST_BACK {
+    if w < SIGNED_LIMIT {
         return w as i64;
     }
     -1 - (LARGEST - w) as i64

@@ -30,6 +30,3 @@ pub const STATE_WORDS: usize = ENDED + 1;
 
 // The largest number of 32 bits, which the errors are held in.
 pub const LARGEST32: u64 = 4294967295;
-
-// The first 64 bits that are a run backward: 2^63.
-pub const FIRST_BACK: u64 = 9223372036854775808;

@@ -11,7 +11,7 @@ use Rattle.listing.specs.Pattern.{entry}
 use Rattle.listing.proofs.Numbers.{either}
 use Rattle.words.specs.Told.{Spot, nowhere, Told, accepted, refused, then}
 use Rattle.pattern_check.specs.Faults.{Fault, sound, outside, repeated, ownJack, earlier, faultAt, firstOf, faultFrom, faultOf, faultTold}
-use Rattle.pattern_check.specs.Calls.{sized, checkAs}
+use Rattle.pattern_check.specs.Calls.{inSize, sized, checkAs}
 use Rattle.pattern_check.proofs.Accepted.{Panel, accepted-panel}
 use Rattle.panel.specs.Calls.{onPanel}
 
@@ -58,16 +58,14 @@ told-number (repeated j i) o k s e = inr (inr (cc))
 told-number (ownJack j) o k s e = absurd o
 
 -- and the length 1
-sized-number : (low high : Bool) (f : Fault) → OfPanel f → (k : ℕ) (s : Spot)
-    → refused k s ≡ cond low (cond high (faultTold f (tt {0})) (refused 1 nowhere)) (refused 1 nowhere) → PanelNumber k
-sized-number true true f o k s e = told-number f o k s e
-sized-number true false f o k s e = inl (cc)
-sized-number false high f o k s e = inl (cc)
+sized-number : (size : Bool) (f : Fault) → OfPanel f → (k : ℕ) (s : Spot) → refused k s ≡ cond size (faultTold f (tt {0})) (refused 1 nowhere) → PanelNumber k
+sized-number true f o k s e = told-number f o k s e
+sized-number false f o k s e = inl (cc)
 
 -- a panel is refused with 1, 3 or 4
 check-number : (most : ℕ) (p : List ℕ) (k : ℕ) (s : Spot) → refused k s ≡ checkAs false most p → PanelNumber k
 unfolding checkAs sized
-check-number most p k s e = sized-number (leb 2 (length p)) (leb (length p) most) (faultOf false p) (from-panel (length p) p 1 (length p)) k s e
+check-number most p k s e = sized-number (inSize most (length p)) (faultOf false p) (from-panel (length p) p 1 (length p)) k s e
 
 -- a refusal is the panel's own, or 17
 parts : {A : Type 0} (t : Told (Unit {0})) (fits : Bool) (b : A) (k : ℕ) (s : Spot) → refused k s ≡ then t (λ ok. cond fits (accepted b) (refused 17 nowhere))

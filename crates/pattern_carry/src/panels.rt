@@ -7,14 +7,15 @@ use words::Port;
 use words::limits::LONGEST;
 ghost use mathlib.Core.Path.{_≡_};
 ghost use mathlib.Core.List.{_++_};
-ghost use Prim.Native.Nat.{suc, _-_, _≤_};
-ghost use lib.ListN.{length, take, drop, replicate};
+ghost use Prim.Native.Nat.{suc, _≤_};
+ghost use lib.ListN.{length, take, drop};
 ghost use Rattle.listing.specs.Numbers.{Among, is};
 ghost use Rattle.listing.specs.Pattern.{entry};
 ghost use Rattle.listing.specs.Ends.{home};
 ghost use Rattle.listing.specs.Limits.{mostPorts};
 ghost use Rattle.listing.specs.Orders.{carry, InShape};
 ghost use Rattle.words.specs.Meaning.{orderOf};
+ghost use Rattle.words.specs.Padded.{padded};
 ghost use Rattle.pattern_check.specs.Faults.{seek};
 ghost use Rattle.pattern_carry.specs.Panels.{wrongFrom};
 
@@ -109,7 +110,7 @@ fn home_port(n: u8, j: u8) -> u8
 // The panel at home, 0 beyond the ports.
 pub fn home_panel(n: u8) -> [u8; LONGEST]
     requires { ⌜ n ≤ mostPorts ⌝ }
-    ensures { λ r. ⌜ r ≡ home n ++ replicate (mostPorts - n) 0 ⌝ }
+    ensures { λ r. ⌜ r ≡ padded mostPorts 0 (home n) ⌝ }
 {
     let mut panel = [0u8; LONGEST];
     let mut j: u8 = 0;

@@ -10,9 +10,9 @@ use borrow.Author.Tests.{leb-true}
 use Rattle.listing.specs.Pattern.{Permutation, Derangement}
 use Rattle.words.specs.Told.{nowhere, Told, accepted, refused}
 use Rattle.pattern_check.specs.Faults.{Fault, sound, outside, repeated, ownJack, faultOf, faultTold}
-use Rattle.pattern_check.specs.Calls.{sized, checkAs, checkOf}
+use Rattle.pattern_check.specs.Calls.{inSize, sized, checkAs, checkOf}
 use Rattle.pattern_check.proofs.Sound.{panel-permutation, permutation-panel, check-derangement, derangement-check}
-use Rattle.pattern_check.proofs.Calls.{check-fault}
+use Rattle.pattern_check.proofs.Calls.{check-fault, size-within}
 
 -- p has 2 to `most` ports and, for so many, is what `Is` says
 pub record Accepted (Is : ℕ → List ℕ → Type 0) (most : ℕ) (p : List ℕ) : Type 0 where
@@ -36,19 +36,18 @@ told-sound (repeated j k) e = cc
 told-sound (ownJack j) e = cc
 
 -- what `sized` accepts is of a size, and accepted within
-sized-parts : (low high : Bool) (t : Told (Unit {0}))
-    → accepted tt ≡ cond low (cond high t (refused 1 nowhere)) (refused 1 nowhere) → (low ≡ true) × (high ≡ true) × (accepted tt ≡ t)
-sized-parts true true t e = (refl, refl, e)
-sized-parts true false t e = absurd (true≢false (cc))
-sized-parts false high t e = absurd (true≢false (cc))
+sized-parts : (size : Bool) (t : Told (Unit {0})) → accepted tt ≡ cond size t (refused 1 nowhere) → (size ≡ true) × (accepted tt ≡ t)
+sized-parts true t e = (refl, e)
+sized-parts false t e = absurd (true≢false (cc))
 
 -- what the check accepts has 2 to `most` jacks, and none of them is at fault
 accepted-parts : (pattern : Bool) (most : ℕ) (p : List ℕ) → accepted tt ≡ checkAs pattern most p
     → (2 ≤ length p) × (length p ≤ most) × (faultOf pattern p ≡ sound)
 unfolding checkAs sized
 accepted-parts pattern most p e =
-    let t = sized-parts (leb 2 (length p)) (leb (length p) most) (faultTold (faultOf pattern p) tt) e in
-    (leb-true 2 (length p) (t .0), leb-true (length p) most (t .1), told-sound (faultOf pattern p) (t .2))
+    let t = sized-parts (inSize most (length p)) (faultTold (faultOf pattern p) tt) e in
+    let size = size-within most (length p) (sym (t .0)) refl in
+    (size .0, size .1, told-sound (faultOf pattern p) (t .1))
 
 -- so it is a pattern
 pub accepted-pattern : (most : ℕ) (p : List ℕ) → accepted tt ≡ checkOf most p → Pattern most p

@@ -1,7 +1,7 @@
 -- What the check tells (the paper, 'Refusal numbers': length comes before all). The most ports of the device is a parameter.
 -- Assumes nothing.
 use Prim.Native.Nat.{ℕ}
-use mathlib.Core.Bool.{Bool, true, false, cond}
+use mathlib.Core.Bool.{Bool, true, cond, _&&_}
 use mathlib.Core.List.{List}
 use lib.Dec.{leb}
 use lib.ListN.{length}
@@ -10,11 +10,11 @@ use Rattle.pattern_check.specs.Faults.{faultOf, faultTold}
 
 -- whether the ports are 2 to most
 unfoldable pub inSize : ℕ → ℕ → Bool
-inSize most n = cond (leb 2 n) (leb n most) false
+inSize most n = leb 2 n && leb n most
 
 -- refusal 1 unless they are
 unfoldable pub sized : {A : Type 0} → ℕ → ℕ → Told A → Told A
-sized most n t = cond (leb 2 n) (cond (leb n most) t (refused 1 nowhere)) (refused 1 nowhere)
+sized most n t = cond (inSize most n) t (refused 1 nowhere)
 
 -- the check of a pattern, or of a panel: 1; then at each jack from 1: 3, 4 and, of a pattern and not of a panel, 5
 unfoldable pub checkAs : Bool → ℕ → List ℕ → Told (Unit {0})

@@ -29,6 +29,20 @@ parts-by false n p = refl
 pub sign-parts : (s : Signed) → Proper s → bySign (withSign s) ≡ s
 sign-parts s p = parts-by (s .back) (s .magnitude) p
 
+-- the sign tells the number: one that goes on is its magnitude, one that goes back is behind by one or more
+pub goes-on : {s : Signed} (z : ℤ) → s ≡ bySign z → s .back ≡ false → pos (s .magnitude) ≡ z
+goes-on (pos n) e b = ap (λ x. pos (x .magnitude)) e
+goes-on (negsuc n) e b = absurd (true≢false (sym (ap (λ x. x .back) e) ∙ b))
+
+pub record Back (s : Signed) (z : ℤ) : Type 0 where
+  pub less : ℕ
+  pub one-more : s .magnitude ≡ suc less
+  pub is : negsuc less ≡ z
+
+pub goes-back : {s : Signed} (z : ℤ) → s ≡ bySign z → s .back ≡ true → Back s z
+goes-back (pos n) e b = absurd (true≢false (sym b ∙ ap (λ x. x .back) e))
+goes-back (negsuc n) e b = record { less = n; one-more = ap (λ x. x .magnitude) e; is = refl }
+
 abbrev read : ℤ → ℤ
 read z = toZ w64 (ofZ w64 z)
 

@@ -22,7 +22,7 @@ abbrev pub bySign : ℤ → Signed
 bySign (pos n) = ahead n
 bySign (negsuc n) = behind (suc n)
 
--- the magnitudes that a signed number of 64 bits may have both ahead and behind are below 2^63
+-- the magnitude of the lowest signed number of 64 bits, 2^63; those ahead are below it
 abbrev pub signedLimit : ℕ
 signedLimit = 9223372036854775808
 

@@ -20,3 +20,6 @@ pub const MOST_ERRORS: u32 = 65535;
 
 // The largest number of 64 bits.
 pub const LARGEST: u64 = 18446744073709551615;
+
+// The magnitude of the lowest signed number of 64 bits, 2^63; those ahead are below it.
+pub const SIGNED_LIMIT: u64 = 9223372036854775808;

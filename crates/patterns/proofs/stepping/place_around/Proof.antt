@@ -22,14 +22,14 @@ returns c =
     let b = c .before .before in
     let s = b .before in
     let e = b .by-sign .ensures ∙ ap bySign (toZ-ofZ w64 (s .args .k) (s .fits .k)) in
-    steps-back (s .args .total) (s .args .rank) (b .by-sign .result) (s .args .k) (omega arith) e (c .if1 .taken)
+    steps-back (s .args .total) (s .args .rank) (s .args .k) e (omega arith) (c .if1 .taken)
 
 returns-2 : tie.Need-returns-2
 returns-2 c =
     let b = c .before .before in
     let s = b .before in
     let e = b .by-sign .ensures ∙ ap bySign (toZ-ofZ w64 (s .args .k) (s .fits .k)) in
-    steps-on (s .args .total) (s .args .rank) (b .by-sign .result) (s .args .k) e (c .if1 .left)
+    steps-on (s .args .total) (s .args .rank) (s .args .k) e (c .if1 .left)
 
 pub place-around-spec : {M : Type 1} → statement M
 place-around-spec =
