@@ -1,5 +1,5 @@
 //! The speed table, as Markdown: nanoseconds a call of the proved library beside the plain Rust reference, in the same process and run, and the
-//! deepest stack of each call. Each time is the median of 7 runs with the least and the most; nothing is asserted of any.
+//! deepest stack of each call. Each time is the median of several runs with the least and the most; nothing is asserted of any.
 
 mod stack;
 
@@ -13,9 +13,22 @@ use reference::{relations, told};
 use std::ptr::read_volatile;
 use std::time::{Duration, Instant};
 
-const RUNS: usize = 7;
-const SHORTEST_RUN: Duration = Duration::from_millis(10);
 const PORTS: [usize; 4] = [8, 9, 10, 20];
+
+/// How much is measured: all of it, or with `--try` each thing once and the shortest circuits alone, to see that the tables can be made.
+struct Effort {
+    runs: usize,
+    shortest_run: Duration,
+    circuits: &'static [usize],
+    printed: &'static [usize],
+}
+
+const WHOLE: Effort = Effort { runs: 7, shortest_run: Duration::from_millis(10), circuits: &[8, 9, 10], printed: &[7, 8, 9] };
+const TRIED: Effort = Effort { runs: 1, shortest_run: Duration::ZERO, circuits: &[8], printed: &[7] };
+
+fn effort() -> &'static Effort {
+    if std::env::args().nth(1).as_deref() == Some("--try") { &TRIED } else { &WHOLE }
+}
 
 /// Keeps a value from being optimised away.
 fn keep<T: Copy>(value: T) -> T {
@@ -23,7 +36,7 @@ fn keep<T: Copy>(value: T) -> T {
     unsafe { read_volatile(&value) }
 }
 
-/// What 7 runs took, in nanoseconds for one call of a run.
+/// What the runs took, in nanoseconds for one call of a run.
 struct Took {
     least: f64,
     median: f64,
@@ -44,17 +57,18 @@ impl Took {
 /// Times `work`, which makes and answers a number of calls. A run repeats it until the run is long enough to be timed.
 fn time(mut work: impl FnMut() -> usize) -> Took {
     work();
-    let mut each: Vec<f64> = (0..RUNS)
+    let Effort { runs, shortest_run, .. } = *effort();
+    let mut each: Vec<f64> = (0..runs)
         .map(|_| {
-            let (start, mut calls) = (Instant::now(), 0);
-            while start.elapsed() < SHORTEST_RUN {
+            let (start, mut calls) = (Instant::now(), work());
+            while start.elapsed() < shortest_run {
                 calls += work();
             }
             start.elapsed().as_nanos() as f64 / calls as f64
         })
         .collect();
     each.sort_by(f64::total_cmp);
-    Took { least: each[0], median: each[RUNS / 2], most: each[RUNS - 1] }
+    Took { least: each[0], median: each[runs / 2], most: each[runs - 1] }
 }
 
 /// Ranks spread over the list, the same in every run.
@@ -174,7 +188,7 @@ fn circuits_table() {
     println!("Nanoseconds a pattern: next round the whole circuit, beside the two procedures of document 000, which walk the list in order and keep their place");
     println!("in it; next is given a pattern and nothing else.\n");
     println!("| ports | patterns | library next | plain Rust next | gen_up and gen_down |\n|---|---|---|---|---|");
-    for n in [8, 9, 10] {
+    for &n in effort().circuits {
         let count = count_of(n);
         assert_eq!([walk(n, face::next), walk(n, plain_next), generate(n)], [count as usize; 3], "each way meets every pattern");
         let (library, plain, generated) = (time(|| walk(n, face::next)), time(|| walk(n, plain_next)), time(|| generate(n)));
@@ -251,7 +265,7 @@ fn printer_table() {
     println!("rank) and a plain Rust printer that goes on by the relations.\n");
     println!("| ports | lines | library | reference | plain Rust |\n|---|---|---|---|---|");
     let mut buffer = vec![0; 1 << 16];
-    for n in [7, 8, 9] {
+    for &n in effort().printed {
         let (plan, first) = begun(n);
         let text = print(&plan);
         assert!(plain_prints(n) == text, "the two printers print the same");
@@ -274,7 +288,7 @@ fn machine() -> String {
 }
 
 fn main() {
-    println!("Machine: {}. Medians of {RUNS} runs, least and most in brackets.", machine());
+    println!("Machine: {}. Medians of {} runs, least and most in brackets.", machine(), effort().runs);
     calls_table();
     circuits_table();
     campaign_table();

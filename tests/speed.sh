@@ -1,0 +1,25 @@
+# The speed table, tried: `speed/run --try` builds and measures each thing once. Nothing is asserted of any time; each table has its rows, each figure is one,
+# and every call is in the table of stacks, below the 16 KiB that docs/USING.md says.
+speed_log=target/speed-try.md
+if ! speed/run --try >"$speed_log" 2>target/speed-try.log; then
+    cat target/speed-try.log
+    fail 'speed: speed/run --try does not end well'
+elif ! awk -F ' *[|] *' '
+    /^## / { table = $0; tables++ }
+    /^[|] (call|ports) / || /^[|]---/ { next }
+    /^[|]/ { if (!rows[table]++) filled++; for (k = 3; k < NF; k++) if ($k !~ /^([0-9.]+( \([0-9.]+\.\.[0-9.]+\))?)?$/ || (k == 3 && $k == "")) bad = 1 }
+    END { exit bad || tables != 5 || filled != 5 }' "$speed_log"; then
+    cat "$speed_log"
+    fail 'speed: a table of speed/run --try is not there, or has no figures'
+else
+    pass 'speed: speed/run makes its five tables'
+fi
+speed_calls=$(sed -n 's/^uint8_t jidrofex_\([a-z_]*\)(.*/\1/p' include/jidrofex.h | sort)
+speed_stacks=$(sed -n '/^## Stack/,$p' "$speed_log" | sed -n 's/^| \([a-z_]*\) | \([0-9]*\) |$/\1 \2/p' | sort)
+if [ -z "$speed_calls" ] || [ "$speed_calls" != "$(echo "$speed_stacks" | cut -d ' ' -f 1)" ]; then
+    fail 'speed: the table of stacks does not have every call of include/jidrofex.h'
+elif [ -n "$(echo "$speed_stacks" | awk '$2 >= 16384')" ]; then
+    fail "speed: a call takes 16 KiB of stack or more: $(echo "$speed_stacks" | awk '$2 >= 16384')"
+else
+    pass "speed: every call of the header takes less than 16 KiB of stack, the most $(echo "$speed_stacks" | awk '$2 > m { m = $2 } END { print m }') bytes"
+fi
