@@ -1,5 +1,6 @@
 # The reference: the plain Rust of tests/reference, written from the paper and document 000, holds to what these print; the proved library, through its
-# calls for C, holds to the reference on many inputs; the examples of a controller's loop print the paper's output.
+# calls for C, holds to the reference on many inputs; the archive needs and exports what docs/USING.md says; the examples of a controller's loop print the
+# paper's output, built by the very commands of docs/USING.md.
 reference_out=target/reference
 reference_archive=target/host/libjidrofex.a
 
@@ -51,6 +52,42 @@ reference_differential() {
     fi
 }
 
+# what the archive needs, exports and holds
+reference_symbols() {
+    reference_needs=$(nm -u "$reference_archive" | sed -n 's/^ *U //p' | sort -u)
+    reference_exports=$(nm -g --defined-only "$reference_archive" | sed -n 's/^[0-9a-f]* [A-Z] //p' | sort)
+    reference_data=$(size "$reference_archive" | awk 'NR > 1 { sum += $2 + $3 } END { print sum + 0 }')
+    if [ "$reference_needs" != memcpy ]; then
+        fail "reference: the archive needs more than memcpy: $(echo $reference_needs)"
+    elif [ -z "$reference_exports" ] || [ "$reference_exports" != "$(sed -n 's/^uint8_t \(jidrofex_[a-z_]*\)(.*/\1/p' include/jidrofex.h | sort)" ]; then
+        fail "reference: the archive exports not just the calls of the header: $(echo $reference_exports)"
+    elif [ "$reference_data" -ne 0 ]; then
+        fail "reference: the archive has $reference_data bytes of data of its own"
+    else
+        pass 'reference: the archive needs memcpy alone, exports the calls of the header alone, and has no data of its own'
+    fi
+}
+
+# the commands of docs/USING.md that build the examples, as they stand there, in a folder that has what they name
+reference_commands() {
+    reference_folder=$reference_out/as-told
+    rm -rf "$reference_folder"
+    mkdir -p "$reference_folder"
+    for entry in include examples target; do ln -s "$PWD/$entry" "$reference_folder/$entry"; done
+    reference_told=$(sed -n 's/^    \(\(cc\|rustc\) .*\)$/\1/p' docs/USING.md)
+    [ "$(echo "$reference_told" | grep -c .)" -eq 2 ] || fail 'reference: docs/USING.md does not have two commands that build the examples'
+    echo "$reference_told" | while read -r reference_command; do
+        (cd "$reference_folder" && rm -f campaign && sh -c "$reference_command" && ./campaign) >"$reference_out/found" 2>&1 &&
+            cmp -s "$reference_out/found" "$reference_out/output" || echo "$reference_command"
+    done >"$reference_out/log"
+    if [ -s "$reference_out/log" ]; then
+        cat "$reference_out/found" "$reference_out/log"
+        fail 'reference: a command of docs/USING.md does not build an example that prints the paper'"'"'s output'
+    else
+        pass "reference: the commands of docs/USING.md build the examples, which print the paper's output"
+    fi
+}
+
 # reference_example LABEL PROGRAM: it prints the paper's output for the paper's plan, built in and from a file, and says why it refuses another
 reference_example() {
     if "$2" >"$reference_out/found" && cmp "$reference_out/found" "$reference_out/output" &&
@@ -79,23 +116,20 @@ reference_examples() {
         reference_example C "$reference_out/campaign_c"
     reference_rust 'the example in Rust' -C "link-arg=$reference_archive" -o "$reference_out/campaign_rust" examples/rust/campaign.rs &&
         reference_example Rust "$reference_out/campaign_rust"
+    reference_commands
 }
 
-reference_tools=yes
-command -v rustc >/dev/null 2>&1 || { reference_tools=no && fail 'the command rustc is missing: install the Debian package rustc'; }
-command -v cc >/dev/null 2>&1 || { reference_tools=no && fail 'the command cc is missing: install the Debian package gcc'; }
-if [ "$reference_tools" = yes ]; then
-    mkdir -p "$reference_out"
-    # an archive that is older than a file of crates/ would be a test of what was there before
-    if [ ! -f "$reference_archive" ] || [ -n "$(find crates -newer "$reference_archive" -type f | head -n 1)" ]; then
-        rm -f "$reference_archive"
-        reference_build 'the library for this machine' tools/host-archive
-    fi
-    if [ -f "$reference_archive" ] &&
-        reference_rust 'the reference' --crate-type rlib --crate-name reference -o "$reference_out/libreference.rlib" tests/reference/reference.rs &&
-        reference_rust 'the calls from Rust' --crate-type rlib --crate-name face -o "$reference_out/libface.rlib" tests/reference/face.rs; then
-        reference_selftest
-        reference_differential
-        reference_examples
-    fi
+mkdir -p "$reference_out"
+# an archive that is older than a file of crates/ would be a test of what was there before
+if [ ! -f "$reference_archive" ] || [ -n "$(find crates -newer "$reference_archive" -type f | head -n 1)" ]; then
+    rm -f "$reference_archive"
+    reference_build 'the library for this machine' tools/host-archive
+fi
+[ ! -f "$reference_archive" ] || reference_symbols
+if [ -f "$reference_archive" ] &&
+    reference_rust 'the reference' --crate-type rlib --crate-name reference -o "$reference_out/libreference.rlib" tests/reference/reference.rs &&
+    reference_rust 'the calls from Rust' --crate-type rlib --crate-name face -o "$reference_out/libface.rlib" tests/reference/face.rs; then
+    reference_selftest
+    reference_differential
+    reference_examples
 fi

@@ -24,10 +24,11 @@ pub struct Group {
     pub meets: &'static [u8],
 }
 
-pub const GROUPS: [Group; 26] = [
+pub const GROUPS: [Group; 27] = [
     Group { name: "count", work: Work::Whole(count), meets: &[0, 1] },
     Group { name: "circuits", work: Work::Whole(circuits), meets: &[0] },
     Group { name: "joins", work: Work::Whole(joins), meets: &[0] },
+    Group { name: "long texts", work: Work::Whole(long_texts), meets: &[8, 11] },
     Group { name: "null", work: Work::Whole(null_pointers), meets: &[1, 2, 11, 15] },
     Group { name: "errors", work: Work::Whole(errors), meets: &[0, 15, 16] },
     Group { name: "words", work: Work::Whole(words), meets: &[0, 12, 13, 14, 15] },

@@ -319,6 +319,10 @@ fn main() {
     let first = State::first(read_plan(PLAN).expect("the paper's plan is accepted"));
     let (text, ended, _) = first.orders(1024).expect("its orders fit");
     compared.same("the paper's example by requests and reports", (text, ended), (OUTPUT.to_vec(), true));
+    // the printer judges the first 1,024 bytes, `begin` the whole text: one line of 1,025 bytes has no newline for the one and a bad number for the other
+    let long = [b"ports=".as_slice(), &[b'1'; 1018], b"\n"].concat();
+    compared.same("a long line, printed", print(&long), b"refused=11\nat=1\n".to_vec());
+    compared.same("a long line, read", read_plan(&long).map_err(|f| (f.number, f.place)).err(), Some((8, 1)));
     for n in 2..=8 {
         circuit(n, &mut compared);
     }

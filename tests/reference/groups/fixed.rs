@@ -1,6 +1,6 @@
 //! Groups that go over a fixed set of cases.
 
-use super::made::on_state;
+use super::made::{begin_on, on_state};
 use crate::calls::{Call, Name};
 use crate::inputs::{self, Rng};
 use crate::Harness;
@@ -48,6 +48,20 @@ pub fn joins(h: &mut Harness) {
                     }
                 }
             }
+        }
+    }
+}
+
+/// Texts about and past the 1,024 bytes that the printer judges: `begin` judges all of a text, however long.
+pub fn long_texts(h: &mut Harness) {
+    let mut rng = Rng::of(h.seed, "long texts", 0);
+    for bytes in [801, 802, 1023, 1024, 1025, 4096, 65_536] {
+        let one_line = [b"ports=".as_slice(), &vec![b'1'; bytes - 7], b"\n"].concat();
+        let no_newline = vec![b'p'; bytes];
+        let plan = b"ports=4\nlegs=1\nstart=0\nrun=0\n";
+        let and_more = [plan.as_slice(), &vec![b'\n'; bytes - plan.len()]].concat();
+        for text in [one_line, no_newline, and_more] {
+            begin_on(h, &mut rng, text, WORDS);
         }
     }
 }
