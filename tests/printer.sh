@@ -71,20 +71,56 @@ else
     fail 'orders: the full circuit of 6 ports does not meet each derangement once'
 fi
 
-# the example plans, by their last line
+# the example plans, by their last line, which is also what the planners' page says of them
 while read -r plan end; do
-    if [ "$(bin/orders <"plans/$plan" | tail -n 1)" = "$end" ]; then
-        pass "orders: plans/$plan ends in $end"
+    if [ "$(bin/orders <"$plan" | tail -n 1)" != "$end" ]; then
+        fail "orders: $plan does not end in $end"
+    elif ! grep -F "\`$plan\`" docs/PLANS.md | grep -qF "| \`$end\` |"; then
+        fail "docs/PLANS.md does not say that $plan ends in $end"
     else
-        fail "orders: plans/$plan does not end in $end"
+        pass "orders: $plan ends in $end, as docs/PLANS.md says"
     fi
 done <<'ENDS'
-two-ports end=1
-backward-5 end=44
-overlap-6 end=20
-sample-20 end=10
-full-circuit-10 end=1334961
+plans/example end=5
+plans/two-ports end=1
+plans/full-circuit-6 end=265
+plans/backward-5 end=44
+plans/overlap-6 end=20
+plans/sample-20 end=10
+plans/full-circuit-10 end=1334961
 ENDS
+
+# what the planners' page says of overlaps and of how many patterns there are, by the paper's rule for the count
+if [ "$(bin/orders <plans/overlap-6 | sed -n 's/^mark=[0-9]*,//p' | sort -u | wc -l)" -eq 15 ] && grep -qF 'has 20 marks and names 15 patterns' docs/PLANS.md; then
+    pass 'orders: plans/overlap-6 names 15 patterns, as docs/PLANS.md says'
+else
+    fail 'orders: plans/overlap-6 does not name as many patterns as docs/PLANS.md says'
+fi
+count=1
+before_it=0
+ports=2
+while [ "$ports" -le 20 ] && grep -qF "| $ports | $count | \`run=$((count - 1))\` |" docs/PLANS.md; do
+    next_count=$((ports * (count + before_it)))
+    before_it=$count
+    count=$next_count
+    ports=$((ports + 1))
+done
+if [ "$ports" -eq 21 ]; then
+    pass 'docs/PLANS.md has the counts of 2 to 20 ports'
+else
+    fail "docs/PLANS.md has another count for $ports ports"
+fi
+
+# where the program cannot be built
+mkdir "$printer_out/commands"
+for tool in dirname readlink sh; do ln -s "$(command -v $tool)" "$printer_out/commands/$tool"; done
+PATH=$printer_out/commands bin/orders <plans/example >"$printer_out/found" 2>"$printer_out/said"
+if [ $? -eq 1 ] && [ ! -s "$printer_out/found" ] && [ "$(cat "$printer_out/said")" = 'orders: the command rt of the Rattle kit is not on PATH' ]; then
+    pass 'orders: without the kit it ends with 1 and says so'
+else
+    cat "$printer_out/found" "$printer_out/said"
+    fail 'orders: without the kit it does not end with 1, or does not say so'
+fi
 
 # an output that cannot be written: one line on standard error, and nothing hangs
 if bin/orders <plans/full-circuit-10 2>"$printer_out/said" >/dev/full; [ "$(cat "$printer_out/said")" = 'orders: the output could not be written' ]; then
