@@ -1,24 +1,65 @@
-# The documents: every law and definition that README or a page of docs/ cites as `crate.File.name` stands where it says, and every must-fail edit
-# that a page cites as `crate/must-fail/name.edit` is there.
-for page in README.md docs/*.md; do
-    cites=$(grep -oE '`[a-z_]+\.[A-Za-z]+\.[^ `]+`' "$page" | tr -d '`' | sort -u)
-    edits=$(grep -oE '`[a-z_]+/must-fail/[^ `]+\.edit`' "$page" | tr -d '`' | sort -u)
-    wrong=
-    for cite in $cites; do
-        crate=${cite%%.*}
+# The documents, README and the pages of docs/: every law and definition that a page cites as `crate.File.name` stands where it says, every must-fail edit that
+# it cites as `crate/must-fail/name.edit` and every file that it names by its path is there; a page cites at least as many as its last line says, so that
+# citations cannot be lost unseen; and no line of prose is longer than 120 characters.
+
+# documents_missing PAGE: what the page cites and the tree does not have
+documents_missing() {
+    for cite in $(grep -oE '`[a-z_]+\.[A-Za-z]+\.[^ `]+`' "$1" | tr -d '`' | sort -u); do
         rest=${cite#*.}
-        file=${rest%%.*}
-        name=${rest#*.}
-        grep -qsE "^ *((unfoldable|abbrev) )?pub (record |data )?$(printf '%s' "$name" | sed 's/[?*+.]/\\&/g') " \
-            "crates/$crate/specs/$file.antt" "crates/$crate/proofs/$file.antt" || wrong="$wrong $cite"
+        name=$(printf '%s' "${rest#*.}" | sed 's/[?*+.]/\\&/g')
+        grep -qsE "^ *((unfoldable|abbrev) )?pub (record |data )?$name " \
+            "crates/${cite%%.*}/specs/${rest%%.*}.antt" "crates/${cite%%.*}/proofs/${rest%%.*}.antt" || echo "$cite"
     done
-    for edit in $edits; do
-        [ -f "crates/$edit" ] || wrong="$wrong $edit"
+    for edit in $(grep -oE '`[a-z_]+/must-fail/[^ `]+\.edit`' "$1" | tr -d '`' | sort -u); do
+        [ -f "crates/$edit" ] || echo "$edit"
     done
-    number=$(echo $cites $edits | wc -w)
-    if [ -n "$wrong" ]; then
-        fail "$page cites what is not there:$wrong"
+    for path in $(grep -oE '`(bin|crates|docs|examples|include|plans|speed|tests|tools)/[^ `]*`' "$1" | tr -d '`' | grep -vE '/must-fail/|NAME' | sort -u); do
+        [ -e "$path" ] || echo "$path"
+    done
+}
+
+for page in README.md docs/*.md; do
+    cited=$(grep -oE '`([a-z_]+\.[A-Za-z]+\.[^ `]+|[a-z_]+/must-fail/[^ `]+\.edit)`' "$page" | sort -u | wc -l)
+    floor=$(sed -n '$s/^<!-- cites at least \([0-9]*\) -->$/\1/p' "$page")
+    missing=$(documents_missing "$page")
+    long=$(LC_ALL=C.UTF-8 grep -nE '^.{121,}' "$page" | grep -vE '^[0-9]+:(\||#|    )' | cut -d: -f1)
+    if [ -n "$missing" ]; then
+        fail "$page cites what is not there: $(echo $missing)"
+    elif [ -z "$floor" ]; then
+        fail "$page does not say in its last line how many it cites at least"
+    elif [ "$cited" -lt "$floor" ]; then
+        fail "$page cites $cited, and says that it cites at least $floor"
+    elif [ -n "$long" ]; then
+        fail "$page has prose of more than 120 characters in lines $(echo $long)"
     else
-        pass "$page: all $number citations stand where it says"
+        pass "$page: what it cites is there, $cited laws, definitions and edits"
     fi
 done
+
+# PROMISES says each sentence once: no two rows of its tables begin with the same words
+documents_twice=$(grep '^|' docs/PROMISES.md | cut -d '|' -f 2 | grep -vE "^(---| the (customer|paper)'s words )" | sort | uniq -d)
+if [ -z "$documents_twice" ]; then
+    pass 'docs/PROMISES.md says no sentence twice'
+else
+    fail "docs/PROMISES.md says twice: $documents_twice"
+fi
+
+# The table of claims, docs/WORKING.md: each row quotes a sentence of README or of a page, and the sentence stands there. Rows are `| page | sentence | held by |`
+# after the heading 'What the pages claim'.
+documents_claims=$(sed -n '/^## What the pages claim/,/^## /p' docs/WORKING.md | grep -E '^\| (README|USING) \|')
+documents_unsaid=$(echo "$documents_claims" | while IFS='|' read -r _ page sentence held _; do
+    page=$(echo $page)
+    [ "$page" = README ] && text=README.md || text=docs/$page.md
+    sentence=$(printf '%s' "$sentence" | sed 's/^ *//; s/ *$//')
+    tr '\n' ' ' <"$text" | sed 's/  */ /g' | grep -qF -- "$sentence" || echo "$page: $sentence"
+    [ -n "$(echo $held)" ] || echo "$page: nothing holds: $sentence"
+done)
+documents_rows=$(echo "$documents_claims" | grep -c .)
+if [ -n "$documents_unsaid" ]; then
+    echo "$documents_unsaid"
+    fail 'docs/WORKING.md quotes a claim that its page does not make, or one that nothing holds'
+elif [ "$documents_rows" -lt 40 ]; then
+    fail "docs/WORKING.md has $documents_rows claims of README and USING, and they make at least 40"
+else
+    pass "docs/WORKING.md: $documents_rows claims of README and USING stand there, each with what holds it"
+fi

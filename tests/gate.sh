@@ -1,65 +1,109 @@
-# The gate's own tests: a copy of the tree with one thing wrong must fail, for that reason, and say so in its last line.
-# Every fault here is met before any proof is looked at, so each takes a moment.
+# The gate's own tests: a copy of the tree with one thing wrong must fail, for that reason, and say so in its last line. A copy runs the parts that are looked
+# at before any proof, and no copy makes copies, so each takes a moment whatever is wrong. What the prover says of wrong edits is tried in refusals.sh.
 gate_copies=$(mktemp -d)
 trap 'rm -rf "$gate_copies"' EXIT
 
-# must_fail LABEL WORDS: the copy's test command fails, its last line counts a failure, and it says WORDS
+# copy LABEL: a copy of the tree, without what was built; its folder is $gate_copy
+copy() {
+    gate_copy=$gate_copies/$1
+    mkdir "$gate_copy"
+    for entry in .ci *; do
+        [ "$entry" = target ] || cp -R "$entry" "$gate_copy/"
+    done
+}
+
+# must_fail LABEL WORDS: the copy fails, its last line counts a failure, and it says WORDS
 must_fail() {
-    if out=$(cd / && "$gate_copies/$1/test" 2>&1); then
+    if out=$(cd / && "$gate_copies/$1/test" $before 2>&1); then
         fail "gate: $1: a tree with this fault passed"
     elif ! echo "$out" | tail -n 1 | grep -Eqx '[0-9]+ passed, [1-9][0-9]* failed'; then
         fail "gate: $1: the last line does not count the failure"
-    elif ! echo "$out" | grep -qF "$2"; then
+    elif ! echo "$out" | grep -qF -- "$2"; then
+        echo "$out" | tail -n 3
         fail "gate: $1: the reason is not said"
     else
         pass "gate: $1 is refused"
     fi
-}
-copy() {
-    mkdir "$gate_copies/$1"
-    cp -R test tests .ci README.md crates.txt crates docs "$gate_copies/$1/"
+    rm -rf "${gate_copies:?}/$1"
 }
 
+# changed LABEL FILE SCRIPT WORDS: a copy in which sed's SCRIPT changed the FILE
+changed() {
+    copy "$1"
+    sed "$3" "$2" >"$gate_copy/$2"
+    if cmp -s "$2" "$gate_copy/$2"; then
+        fail "gate: $1: the copy is not changed"
+    else
+        must_fail "$1" "$4"
+    fi
+}
+
+# on_path LABEL COMMAND WORDS: a copy that is run where every command is found but COMMAND, or where $gate_copies/stand-in is found in its place
+on_path() {
+    copy "$1"
+    mkdir "$gate_copies/commands"
+    oldifs=$IFS
+    IFS=:
+    for folder in $PATH; do ln -s "$folder"/* "$gate_copies/commands/" 2>/dev/null; done
+    IFS=$oldifs
+    rm -f "$gate_copies/commands/$2"
+    [ ! -f "$gate_copies/stand-in" ] || mv "$gate_copies/stand-in" "$gate_copies/commands/$2"
+    gate_path=$PATH
+    PATH=$gate_copies/commands
+    must_fail "$1" "$3"
+    PATH=$gate_path
+    rm -rf "$gate_copies/commands"
+}
+
+# ---- the layout
 copy stray-crate
-mkdir -p "$gate_copies/stray-crate/crates/stray/src"
-echo '// not listed' >"$gate_copies/stray-crate/crates/stray/src/lib.rt"
+mkdir -p "$gate_copy/crates/stray/src"
+echo '// not listed' >"$gate_copy/crates/stray/src/lib.rt"
 must_fail stray-crate 'a crate folder that crates.txt does not list: stray'
 
 copy crate-without-folder
-echo 'absent:' >>"$gate_copies/crate-without-folder/crates.txt"
+echo 'absent:' >>"$gate_copy/crates.txt"
 must_fail crate-without-folder 'a crate of crates.txt without a folder: absent'
 
-copy roof-leaned-on
-sed 's/^orders:/orders: demands/' crates.txt >"$gate_copies/roof-leaned-on/crates.txt"
-must_fail roof-leaned-on 'a crate that depends on the roof, demands: orders'
-
 copy crate-without-a-room
-mkdir -p "$gate_copies/crate-without-a-room/crates/legs/src"
-echo 'legs:' >>"$gate_copies/crate-without-a-room/crates.txt"
-echo 'The crate `legs`.' >>"$gate_copies/crate-without-a-room/README.md"
+mkdir -p "$gate_copy/crates/legs/src"
+echo 'legs:' >>"$gate_copy/crates.txt"
+echo 'The crate `legs`.' >>"$gate_copy/README.md"
 must_fail crate-without-a-room 'a crate that begins with no room: legs'
 
-copy crate-left-out-of-the-tour
-sed 's/`listing_cases`/the cases/' README.md >"$gate_copies/crate-left-out-of-the-tour/README.md"
-must_fail crate-left-out-of-the-tour "a crate that README's tour does not name: listing_cases"
+changed crate-left-out-of-the-tour README.md 's/`listing_cases`/the cases/' "a crate that README's tour does not name: listing_cases"
+changed roof-leaned-on crates.txt 's/^orders:/orders: demands/' 'a crate that depends on the roof, demands: orders'
+changed room-after-its-own crates.txt 's/^text_keys:/text_keys: panel/' 'a crate that leans on a room after its own: text_keys on panel'
 
-copy room-after-its-own
-sed 's/^text_keys:/text_keys: panel/' crates.txt >"$gate_copies/room-after-its-own/crates.txt"
-must_fail room-after-its-own 'a crate that leans on a room after its own: text_keys on panel'
+# ---- the plans
+copy plan-that-no-test-runs
+echo 'ports=2' >"$gate_copy/plans/unrun"
+must_fail plan-that-no-test-runs 'a plan that no test runs: plans/unrun'
 
-# a PATH on which every tool is found but rt
-copy no-kit
-mkdir "$gate_copies/no-kit/bin"
-for tool in sh dirname pwd sed grep sort basename tail cat mktemp rm cp mkdir; do
-    ln -s "$(command -v $tool)" "$gate_copies/no-kit/bin/$tool" 2>/dev/null
-done
-path=$PATH
-PATH=$gate_copies/no-kit/bin must_fail no-kit 'the command rt is missing'
-PATH=$path
+# ---- the documents
+changed citations-stripped docs/PROMISES.md 's/`//g' 'docs/PROMISES.md cites 0, and says that it cites at least'
+changed law-that-is-not-there README.md 's/`demands.Two.demand-two`/`demands.Two.demand-too`/' 'README.md cites what is not there: demands.Two.demand-too'
+changed floor-left-out docs/USING.md '$d' 'docs/USING.md does not say in its last line how many it cites at least'
+changed claim-changed docs/USING.md 's/A call takes less than 16 KiB/A call takes less than 8 KiB/' 'docs/WORKING.md quotes a claim that its page does not make'
 
-copy other-kit
-mkdir "$gate_copies/other-kit/bin"
-printf '#!/bin/sh\necho "rattle-kit-5 logic 0000000000000000"\n' >"$gate_copies/other-kit/bin/rt"
-chmod +x "$gate_copies/other-kit/bin/rt"
-PATH=$gate_copies/other-kit/bin:$path must_fail other-kit "the kit is 'rattle-kit-5 logic 0000000000000000'"
-PATH=$path
+# ---- the edits
+copy edit-removed
+rm "$gate_copy/crates/listing/must-fail/self_join_allowed.edit"
+sed 's,`listing/must-fail/self_join_allowed.edit`,,' docs/PUBLIC.md >"$gate_copy/docs/PUBLIC.md"
+must_fail edit-removed 'edits, and the tree has at least'
+
+# ---- the kit and the other tools
+on_path no-kit rt 'the command rt is missing'
+printf '#!/bin/sh\necho "rattle-kit-5 logic 0000000000000000"\n' >"$gate_copies/stand-in"
+chmod +x "$gate_copies/stand-in"
+on_path other-kit rt "the kit is 'rattle-kit-5 logic 0000000000000000'"
+on_path no-rustc rustc 'the command rustc is missing: install the Debian package rustc'
+on_path no-cc cc 'the command cc is missing: install the Debian package gcc'
+
+# ---- the parts
+if out=$(./test gates 2>&1); then fail 'gate: a part that there is not is run'; else
+    case $out in
+        'usage: ./test '*) pass 'gate: a part that there is not is refused' ;;
+        *) fail 'gate: a part that there is not is refused for another reason' ;;
+    esac
+fi

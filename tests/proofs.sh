@@ -1,10 +1,13 @@
-# The proofs: `rt ci` from nothing. Its own last line is counted into ours. It waits for each batch of crates and edits before it starts the next, so batches of four
-# keep two processors busy where batches of two would leave one idle.
-log=$(mktemp)
-if RT_JOBS=${RT_JOBS:-4} rt ci >"$log" 2>&1; then verdict=0; else verdict=$?; fi
-cat "$log"
-last=$(tail -n 1 "$log")
-rm -f "$log"
+# The proofs: `rt ci` from nothing, shown as it goes. Its own last line is counted into ours. It waits for each batch of crates and edits before it starts the
+# next, so batches of four keep two processors busy where batches of two would leave one idle.
+proofs_out=$(mktemp -d)
+{
+    RT_JOBS=${RT_JOBS:-4} rt ci 2>&1
+    echo $? >"$proofs_out/status"
+} | tee "$proofs_out/log"
+verdict=$(cat "$proofs_out/status")
+last=$(tail -n 1 "$proofs_out/log")
+rm -rf "$proofs_out"
 case $last in
     [0-9]*' passed, '[0-9]*' failed')
         ci_passed=${last%% passed*}

@@ -1,0 +1,45 @@
+# The public calls: docs/PUBLIC.md has each call under a heading with its signature as the source has it, and none of them has a `requires`; the header's calls
+# are the face's, docs/PUBLIC.md names them all, and none has a `requires`.
+
+# public_clauses NAME FILE..: the lines from the function's signature to its body, joined, blanks as one
+public_clauses() {
+    public_name=$1
+    shift
+    awk -v name="$public_name" '
+        !on && $0 ~ "^ *pub (extern \"C\" )?fn " name "\\(" { on = 1 }
+        on { text = text " " $0; if ($0 ~ /[{]$/) { print text; on = 0; text = "" } }' "$@" | tr -s ' ' | sed 's/( /(/; s/, )/)/'
+}
+
+# the heading of each call, and the crate that the line after it names
+public_calls=$(awk '/^### `/ { call = $0; gsub(/^### `|`$/, "", call) } /^- in `/ && call != "" { split($3, at, /[`:]/); print at[2] " " call; call = "" }' docs/PUBLIC.md)
+public_wrong=$(echo "$public_calls" | while read -r crate call; do
+    call=${call#Campaign::}
+    clauses=$(public_clauses "${call%%(*}" "crates/$crate"/src/*.rt)
+    case $clauses in
+        *requires*) echo "$call of $crate has a requires" ;;
+        *"pub fn $call "*) ;;
+        *) echo "$call is not what $crate has" ;;
+    esac
+done)
+public_headings=$(grep -c '^### ' docs/PUBLIC.md)
+if [ -n "$public_wrong" ]; then
+    fail "docs/PUBLIC.md: $(echo $public_wrong)"
+elif [ "$(echo "$public_calls" | grep -c .)" -ne "$public_headings" ] || [ "$public_headings" -lt 23 ]; then
+    fail "docs/PUBLIC.md: a heading without the crate that it stands in, or fewer than 23 calls: $public_headings"
+else
+    pass "docs/PUBLIC.md: $public_headings calls, each with its signature and none with a requires"
+fi
+
+public_header=$(sed -n 's/^uint8_t \(jidrofex_[a-z_]*\)(.*/\1/p' include/jidrofex.h | sort)
+public_face=$(cat crates/face_*/src/*.rt | sed -n 's/^pub extern "C" fn \(jidrofex_[a-z_]*\)(.*/\1/p' | sort)
+public_wrong=$(for call in $public_face; do
+    case $(public_clauses "$call" crates/face_*/src/*.rt) in *requires* | '') echo "$call" ;; esac
+    grep -qF "\`$call\`" docs/PUBLIC.md || echo "$call"
+done)
+if [ -z "$public_header" ] || [ "$public_header" != "$public_face" ]; then
+    fail 'the calls of include/jidrofex.h are not those of the face'
+elif [ -n "$public_wrong" ]; then
+    fail "a call for C with a requires, or one that docs/PUBLIC.md does not name: $(echo $public_wrong)"
+else
+    pass "the header's $(echo "$public_header" | grep -c .) calls are the face's, docs/PUBLIC.md names each, and none has a requires"
+fi
