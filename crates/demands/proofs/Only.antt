@@ -9,6 +9,8 @@ use Rattle.line_reader.proofs.Only.{only-read-line}
 use Rattle.line_writer.proofs.Only.{only-write-line}
 use Rattle.plans.proofs.Only.{only-read-plan}
 use Rattle.campaign.proofs.Only.{only-request, only-request-bytes, only-report, only-begin}
+use Rattle.printing.proofs.Only.{only-fill}
+use Rattle.face_laws.proofs.Only as face
 use Rattle.demands.specs.Only.{EachCallOne}
 
 pub each-call-one : EachCallOne
@@ -35,4 +37,20 @@ each-call-one = record {
   requestBytes = only-request-bytes;
   report = only-report;
   begin = only-begin;
+  fill = only-fill;
+  faceCheck = face.only-check;
+  faceCount = face.only-count;
+  faceRank = face.only-rank;
+  faceUnrank = face.only-unrank;
+  faceBeside = face.only-beside;
+  faceStep = face.only-step;
+  facePortAt = face.only-port-at;
+  faceJackOf = face.only-jack-of;
+  faceCarry = face.only-carry;
+  faceWriteLine = face.only-write-line;
+  faceReadLine = face.only-read-line;
+  faceBegin = face.only-begin;
+  faceRequest = face.only-request;
+  faceReport = face.only-report;
+  faceOrders = face.only-orders;
 }

@@ -1,6 +1,6 @@
 -- Nothing else meets the contract of a call: what two runs of it answer and leave is the same. A law for each call, all by `only`.
 -- Assumes nothing.
-use mathlib.Core.Path.{_≡_, sym, _∙_}
+use mathlib.Core.Path.{sym, _∙_}
 use mathlib.Core.Bool.{Bool}
 use mathlib.Core.List.{List, [], _∷_}
 use Prim.Native.Nat.{ℕ}
@@ -14,34 +14,19 @@ use Rattle.patterns.specs.Calls.{countOf, rankOf, unrankOf, unrankBytes, beside
 use Rattle.panel.specs.Calls.{portOf, jackOf, carryOf, carryBytes}
 use Rattle.line_format.specs.Calls.{writeOf, writeBytes}
 use Rattle.line_format.specs.Reading.{readOf}
-use Rattle.face_values.specs.Answers.{numberTold, wordsTold, nothing, oneNumber}
+use Rattle.face_values.specs.Answers.{nothing, oneNumber}
 use Rattle.face_values.specs.Lines.{moveWords, lineIn}
+use Rattle.face_laws.specs.Only.{Only}
 use Rattle.face_laws.specs.Values.{lineAndPlace, orderAndBytes, bytesAndEnd}
 use Rattle.face_laws.specs.Calls.{calledTold, calledWords, requestBytes, ordersTold, ordersWords, ordersBytes, beginTold, beginWords}
 
--- what a call answers and leaves: its number, the words of the answer, and the contents of each lent slice that it may change
-pub record Result : Type 0 where
-  pub number : ℕ
-  pub words : List ℕ
-  pub left : List (List ℕ)
-
--- the clauses of a contract
-pub record Meets {A : Type 0} (values : A → List ℕ) (told : Told A) (leaves : List (List ℕ)) (r : Result) : Type 0 where
-  pub number : r .number ≡ numberTold told
-  pub words : r .words ≡ wordsTold values told
-  pub left : r .left ≡ leaves
-
--- one result meets them
-only : {A : Type 0} (values : A → List ℕ) (told : Told A) (left : List (List ℕ)) (r s : Result) → Meets values told left r → Meets values told left s → r ≡ s
+-- one result meets the clauses of a contract
+only : {A : Type 0} (values : A → List ℕ) (told : Told A) (left : List (List ℕ)) → Only values told left
 only values told left r s m n = λ i. record {
   number = (m .number ∙ sym (n .number)) i;
   words = (m .words ∙ sym (n .words)) i;
   left = (m .left ∙ sym (n .left)) i;
 }
-
--- that one result meets a contract
-abbrev pub Only : {A : Type 0} → (A → List ℕ) → Told A → List (List ℕ) → Type 0
-Only values told left = (r s : Result) → Meets values told left r → Meets values told left s → r ≡ s
 
 -- ---- patterns
 
