@@ -1,39 +1,61 @@
-# The types: code that takes a port where a jack is meant does not build, and the same code with a jack does. Each probe is a crate of its own
-# over `words`, in a copy of the tree, since a source file that does not build may not stand in the tree itself.
+# The types: code that takes a port where a jack is meant, or a jack where a port is meant, does not build, and the same code with the other does.
+# Each probe is a crate of its own over `words` and `panel`, in a copy of the tree, since a source file that does not build may not stand in the
+# tree itself.
 types_copy=$(mktemp -d)
-mkdir -p "$types_copy/crates"
-cp -R crates/listing crates/words "$types_copy/crates/"
-cp -R target "$types_copy/" 2>/dev/null
-printf 'listing:\nwords: listing\n' >"$types_copy/crates.txt"
+mkdir -p "$types_copy/crates" "$types_copy/target/rlib" "$types_copy/target/stamp"
+# with what is proved of these crates, so that nothing is proved again
+for types_crate in listing words pattern_check pattern_carry panel; do
+    cp -R "crates/$types_crate" "$types_copy/crates/"
+    grep "^$types_crate:" crates.txt >>"$types_copy/crates.txt"
+    cp -R "target/rlib/$types_crate.rlib" "$types_copy/target/rlib/"
+    cp -R "target/stamp/$types_crate" "$types_copy/target/stamp/"
+done
 
-# probe NAME LINES: a crate NAME of these LINES
+# probe NAME LINES: a crate NAME of these LINES, over the crates $types_over, with what $types_uses names
 probe() {
     mkdir -p "$types_copy/crates/$1/src"
-    printf 'use words::{Jack, Move, Order, Place, Port};\n%s\n' "$2" >"$types_copy/crates/$1/src/lib.rt"
-    echo "$1: words" >>"$types_copy/crates.txt"
+    printf '%s\n' "$types_uses" "$2" >"$types_copy/crates/$1/src/lib.rt"
+    echo "$1: $types_over" >>"$types_copy/crates.txt"
 }
 
-# twins LABEL LINES: LINES with JACK read as Jack builds and is proved; read as Port it is refused as a mismatch of the two types
+# twins LABEL RIGHT WRONG ERROR LINES: LINES with WORD read as RIGHT builds and is proved; read as WRONG it is refused with that mismatch of the types
 twins() {
-    probe "$1_jack" "$(echo "$2" | sed 's/JACK/Jack/g')"
-    probe "$1_port" "$(echo "$2" | sed 's/JACK/Port/g')"
-    if (cd "$types_copy" && rt check "$1_jack") >"$types_copy/log" 2>&1; then
-        pass "types: $1: with a jack it builds and is proved"
+    probe "$1_right" "$(echo "$5" | sed "s/WORD/$2/g")"
+    probe "$1_wrong" "$(echo "$5" | sed "s/WORD/$3/g")"
+    if (cd "$types_copy" && rt check "$1_right") >"$types_copy/log" 2>&1; then
+        pass "types: $1: with a $2 it builds and is proved"
     else
         cat "$types_copy/log"
-        fail "types: $1: with a jack it does not build"
+        fail "types: $1: with a $2 it does not build"
     fi
-    if (cd "$types_copy" && rt check "$1_port") >"$types_copy/log" 2>&1; then
-        fail "types: $1: with a port it builds"
-    elif grep -qF 'error[mismatched-types]: expected `Jack`, found `Port`' "$types_copy/log"; then
-        pass "types: $1: with a port it does not build"
+    if (cd "$types_copy" && rt check "$1_wrong") >"$types_copy/log" 2>&1; then
+        fail "types: $1: with a $3 it builds"
+    elif grep -qF "error[mismatched-types]: $4" "$types_copy/log"; then
+        pass "types: $1: with a $3 it does not build"
     else
         cat "$types_copy/log"
-        fail "types: $1: with a port it is refused for another reason"
+        fail "types: $1: with a $3 it is refused for another reason"
     fi
 }
+port_for_jack='expected `Jack`, found `Port`'
+jack_for_port='expected `Port`, found `Jack`'
 
-twins order 'pub fn probe(a: Jack, b: JACK) -> Order { Order::Swap(a, b) }'
-twins move 'pub fn probe(a: Jack, b: JACK) -> Move { Move::Two(a, a, a, b) }'
-twins refusal_place 'pub fn probe(b: JACK) -> Place { Place::AtJack(b) }'
+# orders, moves and refusal places are of jacks
+types_over=words
+types_uses='use words::{Jack, Move, Order, Place, Port};'
+twins order Jack Port "$port_for_jack" 'pub fn probe(a: Jack, b: WORD) -> Order { Order::Swap(a, b) }'
+twins move Jack Port "$port_for_jack" 'pub fn probe(a: Jack, b: WORD) -> Move { Move::Two(a, a, a, b) }'
+twins refusal_place Jack Port "$port_for_jack" 'pub fn probe(b: WORD) -> Place { Place::AtJack(b) }'
+
+# look-ups: what each takes, and what it gives
+types_over='panel words'
+types_uses='use panel::answers::{Found, Looked};
+use panel::lookups::{jack_of, port_at};
+use words::{Jack, Port};'
+twins port_at_takes Jack Port "$port_for_jack" 'pub fn probe(panel: &[u8], x: WORD) -> Looked { port_at(panel, x) }'
+twins jack_of_takes Port Jack "$jack_for_port" 'pub fn probe(panel: &[u8], x: WORD) -> Found { jack_of(panel, x) }'
+twins port_at_gives Port Jack "$port_for_jack" 'fn number(x: WORD) -> u8 { x.0 }
+pub fn probe(panel: &[u8], jack: Jack) -> u8 { match port_at(panel, jack) { Looked::Joined(x) => number(x), Looked::Refused(_) => 0 } }'
+twins jack_of_gives Jack Port "$jack_for_port" 'fn number(x: WORD) -> u8 { x.0 }
+pub fn probe(panel: &[u8], port: Port) -> u8 { match jack_of(panel, port) { Found::Held(x) => number(x), Found::Refused(_) => 0 } }'
 rm -rf "$types_copy"
