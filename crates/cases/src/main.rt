@@ -1,4 +1,4 @@
-// The cases that a program runs and compares: the paper's 'To run', document 000's table for 4 and 5 ports, the circuits of 2 to 7 ports, the paper's example
+// The cases that a program runs and compares: the paper's 'To run', document 000's table for 4 and 5 ports, the circuits of 2 to 6 ports, the paper's example
 // read back. Each line says what was compared; where something is not as expected the line ends in DIFFERS.
 mod calls;
 mod example;
@@ -25,19 +25,17 @@ fn circuits_2_to_4() {
     walks::circuit(&mut four, &mut [0u8; 4], 9);
 }
 
-fn circuits_5_to_7() {
+fn circuits_5_and_6() {
     let mut five = [0u8; 5];
     walks::circuit(&mut five, &mut [0u8; 5], 44);
     let mut six = [0u8; 6];
     walks::circuit(&mut six, &mut [0u8; 6], 265);
-    let mut seven = [0u8; 7];
-    walks::circuit(&mut seven, &mut [0u8; 7], 1854);
 }
 
 fn main() {
     calls::to_run();
     tables_4_and_5();
     circuits_2_to_4();
-    circuits_5_to_7();
+    circuits_5_and_6();
     example::printed_and_read();
 }

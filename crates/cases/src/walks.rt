@@ -6,7 +6,7 @@ use patterns::neighbours::previous;
 use patterns::ranking::unrank;
 use words::limits::LARGEST;
 
-// The entry at a place of a pattern of up to 7 ports; 0 beyond it.
+// The entry at a place of a pattern of up to 6 ports; 0 beyond it.
 fn entry(p: &[u8], j: usize) -> usize {
     if j < p.len() {
         return (p[j] % 8) as usize;
@@ -14,17 +14,13 @@ fn entry(p: &[u8], j: usize) -> usize {
     0
 }
 
-// A number below 65,536 that tells the permutations of up to 7 ports apart: five entries, and which of the last two is smaller.
+// A number below 32,768 that tells the permutations of up to 6 ports apart: by five entries, from which a sixth follows.
 fn spot(p: &[u8]) -> usize {
-    let front = (entry(p, 0) % 8) * 4096
+    (entry(p, 0) % 8) * 4096
         + (entry(p, 1) % 8) * 512
         + (entry(p, 2) % 8) * 64
         + (entry(p, 3) % 8) * 8
-        + entry(p, 4) % 8;
-    if entry(p, 5) < entry(p, 6) {
-        return front * 2 + 1;
-    }
-    front * 2
+        + entry(p, 4) % 8
 }
 
 // Whether a spot was not seen before; it is from now on.
