@@ -1,2 +1,3 @@
+pub mod Cases
 pub mod LineWords
 pub mod Tells

@@ -1,15 +1,20 @@
 -- What the list keeps to on the device with 20 ports: counts, marks and steps fit 64 bits. The only laws here that know the device.
 -- Assumes nothing.
 use mathlib.Core.Path.{_≡_, refl}
-use Prim.Native.Nat.{ℕ, zero, suc, _+_, _*_, _%_, _≤_, _<_}
+use Prim.Native.Nat.{ℕ, zero, suc, _+_, _*_, _^_, _%_, _≤_, _<_}
 use native.Mathlib.Omega.{arith}
 use lib.Dec.{lit<, lit≤}
+use lib.IntN.{pos, negℤ}
 use Rattle.listing.specs.Count.{count}
 use Rattle.listing.specs.Rank.{fromEnd}
 use Rattle.listing.specs.Around.{around}
 use Rattle.listing.specs.Limits.{mostPorts, mostLegs, largest64, lowest64}
 use Rattle.listing.proofs.Counts.{count-grows}
 use Rattle.listing.proofs.Around.{around-behind}
+
+-- the limits by their numbers: 20 ports, 16 legs, numbers below 2^64, signed numbers from -2^63 on
+pub limits-hold : (mostPorts ≡ 20) × (mostLegs ≡ 16) × (suc largest64 ≡ 2 ^ 64) × (lowest64 ≡ negℤ (pos (2 ^ 63)))
+limits-hold = (refl, refl, refl, refl)
 
 -- the count for 20 ports
 pub count-20 : count mostPorts ≡ 895014631192902121

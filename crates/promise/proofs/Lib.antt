@@ -18,3 +18,4 @@ pub mod Derangements
 pub mod Progress
 pub mod Wrong
 pub mod Example
+pub mod Cases

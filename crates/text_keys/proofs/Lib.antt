@@ -1,3 +1,4 @@
+pub mod Cases
 pub mod Cuts
 pub mod Keys
 pub mod Only
