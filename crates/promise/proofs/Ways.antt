@@ -142,29 +142,6 @@ way-carriage F l q vs h = go (isPermutation (F .ports) q) refl h
     go true e f = (tells-permutation (F .ports) q .0 e, some-eq f)
     go false e f = no-none refl f
 
--- for a panel that may stand there the search finds what is to come
-pub way-found : (F : Family) (l : Leg) (k : ℕ) (q : List ℕ) → OnTheWay F l k q → (vs : List Order) × (toCome F l k q ≡ some vs)
-unfolding OnTheWay toCome
-way-found F l zero q P = (carriage q (F .pattern (rankAt F l 0)), way-first F l q P)
-way-found F l (suc k) q h = rest-passed (F .pattern (rankAt F l k)) (F .orders (l .back) (rankAt F l k)) q h
-
--- and for no other
-pub found-way : (F : Family) (l : Leg) (k : ℕ) (q : List ℕ) (vs : List Order) → toCome F l k q ≡ some vs → OnTheWay F l k q
-unfolding OnTheWay toCome
-found-way F l zero q vs h = way-carriage F l q vs h .0
-found-way F l (suc k) q vs h =
-    let r : Rest (F .pattern (rankAt F l k)) (F .orders (l .back) (rankAt F l k)) q vs =
-    rest-so (F .pattern (rankAt F l k)) (F .orders (l .back) (rankAt F l k)) q vs h in
-    (r .done, r .within, r .panel)
-
--- the test tells whether it may stand there
-pub tells-way : (F : Family) (l : Leg) (k : ℕ) (q : List ℕ) → Tells (found (toCome F l k q)) (OnTheWay F l k q)
-tells-way F l k q = (λ e. there (toCome F l k q) refl e, λ h. rw (way-found F l k q h .1))
-  where
-    there : (r : Option (List Order)) → toCome F l k q ≡ r → found r ≡ true → OnTheWay F l k q
-    there none e f = clash f refl
-    there (some vs) e f = found-way F l k q vs e
-
 -- what the orders still to come do
 pub record Coming (F : Family) (l : Leg) (k : ℕ) (q : List ℕ) (vs : List Order) : Type 0 where
   pub leads : carryAll vs q ≡ F .pattern (rankAt F l k)
@@ -184,6 +161,13 @@ module _ (F : Family) (lawful : Lawful F) (l : Leg) where
   -- two listed ranks that a leg names one after the other are a step of the family
   inner : (k : ℕ) → Listed F l (suc k) → Step F (l .back) (rankAt F l k)
   inner k listed = lawful .steps (l .back) (rankAt F l k) (listed k (omega arith)) (listed (suc k) (omega arith))
+
+  -- inside a leg: after the first i orders of the move to the neighbour the others are to come
+  pub way-after : (k : ℕ) → Listed F l (suc k) → (i : ℕ) → i ≤ length (F .orders (l .back) (rankAt F l k))
+      → toCome F l (suc k) (carryAll (take i (F .orders (l .back) (rankAt F l k))) (F .pattern (rankAt F l k)))
+      ≡ some (drop i (F .orders (l .back) (rankAt F l k)))
+  unfolding toCome
+  way-after k listed i h = rest-after (F .pattern (rankAt F l k)) (F .orders (l .back) (rankAt F l k)) (inner k listed .straight) i h
 
   -- the orders still to come do this
   pub coming : (k : ℕ) → Listed F l k → (q : List ℕ) (vs : List Order) → toCome F l k q ≡ some vs → Coming F l k q vs
@@ -221,24 +205,46 @@ module _ (F : Family) (lawful : Lawful F) (l : Leg) where
 
   -- from the last mark's pattern all the family's orders are to come
   pub way-next : (k : ℕ) → Listed F l (suc k) → toCome F l (suc k) (F .pattern (rankAt F l k)) ≡ some (F .orders (l .back) (rankAt F l k))
-  unfolding toCome carryAll
-  way-next k listed = rest-after (F .pattern (rankAt F l k)) (F .orders (l .back) (rankAt F l k)) (inner k listed .straight) 0 (omega arith)
+  unfolding carryAll
+  way-next k listed = way-after k listed 0 (omega arith)
 
   -- at the mark's pattern nothing is to come
   pub way-over : (k : ℕ) → Listed F l k → toCome F l k (F .pattern (rankAt F l k)) ≡ some []
-  unfolding toCome
   way-over zero listed =
       let t : List ℕ = F .pattern (rankAt F l 0) in
       way-first F l t (wanted-permutation 0 listed) ∙ ap {B = Option (List Order)} some (carriage-still t)
   way-over (suc k) listed =
       let os : List Order = F .orders (l .back) (rankAt F l k) in
-      ap (rest (F .pattern (rankAt F l k)) os) (sym (inner k listed .leads) ∙ ap (λ vs. carryAll vs (F .pattern (rankAt F l k))) (sym (take-length os)))
-      ∙ rest-after (F .pattern (rankAt F l k)) os (inner k listed .straight) (length os) (omega arith) ∙ ap {B = Option (List Order)} some (drop-length os)
+      ap (toCome F l (suc k)) (sym (inner k listed .leads) ∙ ap (λ vs. carryAll vs (F .pattern (rankAt F l k))) (sym (take-length os)))
+      ∙ way-after k listed (length os) (omega arith) ∙ ap {B = Option (List Order)} some (drop-length os)
 
   -- and where nothing is to come the panel has the mark's pattern
   pub way-done : (k : ℕ) → Listed F l k → (q : List ℕ) → toCome F l k q ≡ some [] → q ≡ F .pattern (rankAt F l k)
   unfolding carryAll
   way-done k listed q h = coming k listed q [] h .leads
+
+-- for a panel that may stand there the search finds what is to come
+pub way-found : (F : Family) (l : Leg) (k : ℕ) (q : List ℕ) → OnTheWay F l k q → (vs : List Order) × (toCome F l k q ≡ some vs)
+unfolding OnTheWay toCome
+way-found F l zero q P = (carriage q (F .pattern (rankAt F l 0)), way-first F l q P)
+way-found F l (suc k) q h = rest-passed (F .pattern (rankAt F l k)) (F .orders (l .back) (rankAt F l k)) q h
+
+-- and for no other
+pub found-way : (F : Family) (l : Leg) (k : ℕ) (q : List ℕ) (vs : List Order) → toCome F l k q ≡ some vs → OnTheWay F l k q
+unfolding OnTheWay toCome
+found-way F l zero q vs h = way-carriage F l q vs h .0
+found-way F l (suc k) q vs h =
+    let r : Rest (F .pattern (rankAt F l k)) (F .orders (l .back) (rankAt F l k)) q vs =
+    rest-so (F .pattern (rankAt F l k)) (F .orders (l .back) (rankAt F l k)) q vs h in
+    (r .done, r .within, r .panel)
+
+-- the test tells whether it may stand there
+pub tells-way : (F : Family) (l : Leg) (k : ℕ) (q : List ℕ) → Tells (found (toCome F l k q)) (OnTheWay F l k q)
+tells-way F l k q = (λ e. there (toCome F l k q) refl e, λ h. rw (way-found F l k q h .1))
+  where
+    there : (r : Option (List Order)) → toCome F l k q ≡ r → found r ≡ true → OnTheWay F l k q
+    there none e f = clash f refl
+    there (some vs) e f = found-way F l k q vs e
 
 -- the last mark's pattern may stand before the next mark of the leg
 pub way-on : (F : Family) (l : Leg) (k : ℕ) → OnTheWay F l (suc k) (F .pattern (rankAt F l k))
