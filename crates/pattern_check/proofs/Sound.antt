@@ -1,18 +1,20 @@
 -- The check accepts exactly the patterns, and as a panel exactly the permutations.
 -- Assumes nothing.
-use mathlib.Core.Path.{_≡_, refl, sym}
+use mathlib.Core.Path.{_≡_, refl, sym, _∙_}
 use mathlib.Core.Logic.{_≢_}
-use mathlib.Core.Bool.{Bool, true, false, cond, true≢false}
+use mathlib.Core.Bool.{Bool, true, false, true≢false}
 use mathlib.Core.List.{List}
 use Prim.Native.Nat.{ℕ, zero, suc, _+_, _≤_, _<_}
+use native.Mathlib.Numerals.{add-one}
 use native.Mathlib.Omega.{arith}
-use lib.Dec.{eqb, leb}
+use lib.Dec.{eqb}
 use lib.ListN.{length}
-use borrow.Author.Tests.{eqb-true, eqb-false, leb-true, ne-eqb, le-leb}
+use borrow.Author.Tests.{eqb-false, ne-eqb}
 use Rattle.listing.specs.Numbers.{Among, before}
 use Rattle.listing.specs.Pattern.{entry, Permutation, Derangement}
 use Rattle.listing.proofs.Numbers.{either, test, below?, same?, suc-before}
 use Rattle.pattern_check.specs.Faults.{Fault, sound, outside, repeated, ownJack, seek, earlier, faultAt, firstOf, faultFrom, faultOf}
+use Rattle.pattern_check.proofs.Faults.{at-zero, at-above, at-repeated, at-own, at-other, at-panel}
 
 -- ---- one jack
 
@@ -41,31 +43,44 @@ record Clean (pattern : Bool) (n : ℕ) (p : List ℕ) (j : ℕ) : Type 0 where
   fresh : earlier p j ≡ 0
   away : pattern ≡ true → entry p j ≢ j
 
+-- it is so where nothing is found
 clean-sound : (pattern : Bool) (n : ℕ) (p : List ℕ) (j : ℕ) → Clean pattern n p j → faultAt pattern n p j ≡ sound
-unfolding faultAt
-clean-sound true n p j c =
-    let h = c .port in
-    rw (ne-eqb (entry p j) 0 (omega arith), le-leb (entry p j) n (h .1), c .fresh, ne-eqb (entry p j) j (c .away refl))
-clean-sound false n p j c = let h = c .port in rw (ne-eqb (entry p j) 0 (omega arith), le-leb (entry p j) n (h .1), c .fresh)
+clean-sound pattern n p zero c = absurd (omega (arith, c .port))
+clean-sound true n p (suc at) c =
+    at-other true n p at (c .port .0) (c .port .1) (c .fresh) refl (λ e. c .away refl (e ∙ add-one at))
+clean-sound false n p (suc at) c = at-panel false n p at (c .port .0) (c .port .1) (c .fresh) refl
 
--- of the tests at a jack, by their results: in range, above 0, fresh, and not at its own jack
-only-sound : (zero? in? fresh? pattern own? : Bool) (j k : ℕ)
-    → cond zero? (outside j) (cond in? (cond fresh? (cond pattern (cond own? (ownJack j) sound) sound) (repeated j k)) (outside j)) ≡ sound
-    → (zero? ≡ false) × (in? ≡ true) × (fresh? ≡ true) × (pattern ≡ true → own? ≡ false)
-only-sound true i f t o j k e = absurd (true≢false (cc))
-only-sound false false f t o j k e = absurd (true≢false (cc))
-only-sound false true false t o j k e = absurd (true≢false (cc))
-only-sound false true true true true j k e = absurd (true≢false (cc))
-only-sound false true true true false j k e = (refl, refl, refl, λ t. refl)
-only-sound false true true false o j k e = (refl, refl, refl, λ t. absurd (true≢false (cc)))
+-- what is found at a jack is one thing: no fault is none of the three
+data Found (f : Fault) : Type 0 where
+  is-outside : (j : ℕ) → f ≡ outside j → Found f
+  is-repeated : (j k : ℕ) → f ≡ repeated j k → Found f
+  is-own : (j : ℕ) → f ≡ ownJack j → Found f
 
+not-found : {A : Type 0} (f : Fault) → f ≡ sound → Found f → A
+not-found f e (is-outside j h) = absurd (true≢false (cc))
+not-found f e (is-repeated j k h) = absurd (true≢false (cc))
+not-found f e (is-own j h) = absurd (true≢false (cc))
+
+-- and only there: each other port at the jack is one of the three faults
 sound-clean : (pattern : Bool) (n : ℕ) (p : List ℕ) (j : ℕ) → faultAt pattern n p j ≡ sound → Clean pattern n p j
 unfolding faultAt
-sound-clean pattern n p j e =
-    let t = only-sound (eqb (entry p j) 0) (leb (entry p j) n) (eqb (earlier p j) 0) pattern (eqb (entry p j) j) j (earlier p j) e in
-    let low : entry p j ≢ 0 = eqb-false (entry p j) 0 (t .0) in
-    let high : entry p j ≤ n = leb-true (entry p j) n (t .1) in
-    record { port = omega arith; fresh = eqb-true (earlier p j) 0 (t .2); away = λ is. eqb-false (entry p j) j (t .3 is) }
+sound-clean pattern n p zero e = not-found (outside 0) e (is-outside 0 refl)
+sound-clean pattern n p (suc at) e =
+    either (below? (entry p (suc at)) 1)
+    (λ h. none (is-outside (at + 1) (at-zero pattern n p at h)))
+    (λ low.
+    either (below? n (entry p (suc at)))
+    (λ h. none (is-outside (at + 1) (at-above pattern n p at low h)))
+    (λ high.
+    let fresh : earlier p (suc at) ≡ 0 = unrepeated low high (earlier p (suc at)) refl in
+    record { port = (low, high); fresh = fresh; away = λ t d. none (is-own (at + 1) (at-own pattern n p at low high fresh t (d ∙ sym (add-one at)))) }))
+  where
+    none : {A : Type 0} → Found (faultAt pattern n p (suc at)) → A
+    none f = not-found (faultAt pattern n p (suc at)) e f
+
+    unrepeated : 1 ≤ entry p (suc at) → entry p (suc at) ≤ n → (k : ℕ) → earlier p (suc at) ≡ k → earlier p (suc at) ≡ 0
+    unrepeated low high zero h = h
+    unrepeated low high (suc k) h = none (is-repeated (at + 1) (k + 1) (at-repeated pattern n p at low high k h))
 
 -- ---- all jacks
 
