@@ -13,16 +13,6 @@ use Rattle.text_keys.proofs.Cuts.{digits-clear, first-append, cut-joined, cut-p
 use Rattle.line_format.specs.Format.{Numbers, AllUpTo, listed}
 use Rattle.line_format.specs.Reading.{numberBefore, numbersIn}
 
--- ---- bytes that are not there
-
--- no newline is in the text of numbers with commas
-pub listed-clear : (k : ℕ) (x : Numbers k) → firstOf newline (listed k x) ≡ none
-unfolding listed firstOf
-listed-clear zero n = digits-clear newline n (omega arith)
-listed-clear (suc k) x =
-    first-append newline (digitsOf (x .0)) (comma ∷ listed k (x .1)) (digits-clear newline (x .0) (omega arith))
-    (first-append newline (comma ∷ []) (listed k (x .1)) refl (listed-clear k (x .1)))
-
 -- ---- the first of them
 
 module _ (most : ℕ) where
@@ -71,3 +61,13 @@ module _ (most : ℕ) where
       let is : (b .0, m .0) ≡ x = m .2 in
       subst (λ y. (t ≡ listed (suc k) y) × AllUpTo most (suc k) y) is
       (first .0 ∙ ap (λ s. digitsOf (b .0) ++ (comma ∷ s)) (rest .0), (first .1, rest .1))
+
+-- ---- bytes that are not there
+
+-- no newline is in the text of numbers with commas
+pub listed-clear : (k : ℕ) (x : Numbers k) → firstOf newline (listed k x) ≡ none
+unfolding listed firstOf
+listed-clear zero n = digits-clear newline n (omega arith)
+listed-clear (suc k) x =
+    first-append newline (digitsOf (x .0)) (comma ∷ listed k (x .1)) (digits-clear newline (x .0) (omega arith))
+    (first-append newline (comma ∷ []) (listed k (x .1)) refl (listed-clear k (x .1)))

@@ -15,7 +15,7 @@ use Rattle.text_numbers.specs.Decimal.{digitsOf}
 use Rattle.text_numbers.proofs.Lengths.{digits-at-most, digits-above, digits-64}
 use Rattle.text_keys.specs.Parts.{comma}
 use Rattle.line_format.specs.Format.{swapping, turning, marking, ending, key, Numbers, listed, keyText, unended, lineText}
-use Rattle.line_format.specs.Campaign.{OfCampaign}
+use Rattle.line_format.specs.Campaign.{OfCampaign, mostBytes}
 use Rattle.line_format.proofs.Inverse.{text-length}
 
 -- ---- lengths
@@ -37,7 +37,7 @@ line-length l word t e = text-length l ∙ ap (λ n. n + 1) (ap length e ∙ len
 -- ---- at most 45 bytes
 
 -- jacks up to 20 have at most two digits, marks of 64 bits at most 20, and ranks below the count for 20 ports at most 18
-pub at-most-45 : (l : Line) → OfCampaign mostPorts largest64 (count mostPorts) l → length (lineText l) ≤ 45
+pub at-most-45 : (l : Line) → OfCampaign mostPorts largest64 (count mostPorts) l → length (lineText l) ≤ mostBytes
 unfolding unended keyText
 at-most-45 (Movement (Swap a b)) h =
     omega (
@@ -96,5 +96,5 @@ pub longest-of-campaign : OfCampaign mostPorts largest64 (count mostPorts) longe
 longest-of-campaign = (omega arith, omega (arith, count-20))
 
 -- it has 45 bytes
-pub longest-45 : length (lineText longest) ≡ 45
+pub longest-45 : length (lineText longest) ≡ mostBytes
 longest-45 = mark-45 14320234099086433935 895014631192902120 (omega arith) (omega arith) (omega arith) (omega arith)

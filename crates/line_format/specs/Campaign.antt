@@ -11,3 +11,7 @@ abbrev pub OfCampaign : ℕ → ℕ → ℕ → Line → Type 0
 OfCampaign jacks most ranks (Movement o) = InShape jacks (orderOf o)
 OfCampaign jacks most ranks (Mark m r) = (m ≤ most) × (r < ranks)
 OfCampaign jacks most ranks (End m) = m ≤ most
+
+-- 'The longest that a campaign writes is 45 bytes', its newline included
+abbrev pub mostBytes : ℕ
+mostBytes = 45

@@ -8,6 +8,7 @@ use Rattle.promise.specs.Campaign.{request}
 use Rattle.promise.specs.Progress.{work}
 use Rattle.campaign_state.specs.State.{answerText, settingOf, momentOf}
 use Rattle.campaign_state.specs.declared.State.{State}
+use Rattle.line_format.specs.Campaign.{mostBytes}
 use Rattle.campaign.specs.Calls.{answerOf}
 use Rattle.printing.specs.Printing.{sequel, more, onward}
 
@@ -19,7 +20,7 @@ toGo s = work (settingOf s) (momentOf s)
 
 -- room for any line that a campaign writes
 abbrev pub anyLine : ℕ
-anyLine = 45
+anyLine = mostBytes
 
 -- the lines of at most k requests with room for any line, every mark taken as run, up to the end's
 unfoldable pub wholeFrom : ℕ → State → List ℕ
