@@ -1,13 +1,13 @@
--- One line both ways: what an accepted line says of its text (`field-accepted`), and that such a text is accepted (`field-text`). Before them, what an accepted
--- step of a judgement says of its parts.
+-- One line both ways: what an accepted line says of its text (`field-accepted`), and that such a text is accepted (`field-text`), with any number of the line
+-- (`field-anywhere`). Before them, what an accepted step of a judgement says of its parts.
 -- Assumes nothing.
-use mathlib.Core.Path.{_≡_, refl, sym, ap, _∙_}
+use mathlib.Core.Path.{_≡_, refl, sym, ap, subst, _∙_}
 use mathlib.Core.Bool.{Bool, true, false, true≢false}
 use mathlib.Core.List.{List, _∷_, _++_}
 use mathlib.Core.Option.{none, some}
 use Prim.Native.Nat.{ℕ, _≤_, _<_}
 use lib.Seq.{append-snoc}
-use Rattle.words.specs.Told.{accepted, atLine, need}
+use Rattle.words.specs.Told.{accepted, atLine, then, need}
 use Rattle.words.specs.declared.Signed.{Signed}
 use Rattle.words.proofs.Told.{accepted-once, need-accepted, then-accepted}
 use Rattle.text_keys.specs.Parts.{newline, firstOf, Parts, cut, afterKey}
@@ -78,3 +78,22 @@ module _ (f : Field) (line : ℕ) where
   field-text v rest a clear number low below =
       let good : between (f .low) (f .below) (a .magnitude) ≡ true = good-value (f .low) (f .below) (a .magnitude) low below in
       rw (field-joined (f .key) v rest, cut-joined newline (f .key ++ v) rest clear, after-key (f .key) v, number, good)
+
+  -- the number of a line is told where it is refused only: an accepted line is accepted as any other line too
+  pub field-anywhere : (k : ℕ) (t : List ℕ) (g : Got Signed) → fieldIn f line t ≡ accepted g → fieldIn f k t ≡ accepted g
+  unfolding fieldIn lineIn
+  field-anywhere k t g e =
+      let b = then-accepted (lineIn (f .key) line t) _ g e in
+      let c = then-accepted (need 11 (atLine line) (cut newline t)) _ (b .first) (b .taken) in
+      let a = then-accepted (need 7 (atLine line) (afterKey (f .key) (c .first .front))) _ (b .first) (c .on) in
+      let n = then-accepted (need 8 (atLine line) (valueIn (f .sign) (f .largest) (b .first .front))) _ g (b .on) in
+      let v = passed-accepted (f .refusal) line (between (f .low) (f .below) (n .first .magnitude)) _ g (n .on) in
+      let parts : record { front = a .first; rest = c .first .rest } ≡ b .first = accepted-once (a .on) in
+      let newline-is = need-accepted 11 (atLine line) (cut newline t) (c .first) (c .taken) in
+      let key-is = need-accepted 7 (atLine line) (afterKey (f .key) (c .first .front)) (a .first) (a .taken) in
+      let number-is = need-accepted 8 (atLine line) (valueIn (f .sign) (f .largest) (b .first .front)) (n .first) (n .taken) in
+      rw (newline-is, key-is)
+      (subst
+      (λ (p : Parts). then (need 8 (atLine k) (valueIn (f .sign) (f .largest) (p .front)))
+      (λ s. passed (f .refusal) k (between (f .low) (f .below) (s .magnitude)) (record { value = s; rest = p .rest })) ≡ accepted g)
+      (sym parts) (rw (number-is, v .0) (ap accepted (v .1))))

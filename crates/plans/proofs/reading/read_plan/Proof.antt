@@ -13,6 +13,7 @@ use Rattle.plans.specs.Reading.{portsField, legsField}
 use Rattle.plans.specs.Answers.{Answers}
 use Rattle.plan_rules.specs.Planned.{device}
 use Rattle.plan_lines.proofs.Numbers.{number-accepted}
+use Rattle.plan_lines.proofs.OneLine.{field-anywhere}
 use Rattle.plans.proofs.Plans.{ports-refused, legs-line-refused, legs-decide}
 use Rattle.plans.proofs.reading.read_plan.Statement.{statement}
 use Rattle.plans.proofs.reading.read_plan.Tie as tie
@@ -22,7 +23,8 @@ ports-read : (c : tie.After-known-told2)
     → let g = c .before .ports .given .0 in
     let a = c .before .before .before .before .before .before .args in
     accepted (record { value = g .0; rest = drop (g .1 .0) (a .text .now) }) ≡ fieldIn (portsField device) 1 (a .text .now)
-ports-read c = sym (ap (lineTold _) (c .before .ports .given .1)) ∙ c .before .before .before .value-at .ensures .0
+ports-read c =
+    sym (field-anywhere (portsField device) _ 1 _ _ (sym (sym (ap (lineTold _) (c .before .ports .given .1)) ∙ c .before .before .before .value-at .ensures .0)))
 
 ports-in : (c : tie.After-known-told2) → let g = c .before .ports .given .0 in (2 ≤ g .0 .magnitude) × (g .0 .magnitude < 21)
 ports-in c = let x = number-accepted largest64 portsKey 2 21 1 1 _ _ (sym (ports-read c)) in (x .1, x .2)
