@@ -8,6 +8,10 @@ use Rattle.face_state.proofs.StateWords.{byte-bit}
 use Rattle.face_state.proofs.last_word.Statement.{statement}
 use Rattle.face_state.proofs.last_word.Tie as tie
 
+-- the covered
+returns-3 : tie.Need-returns-3
+returns-3 c = search needs
+
 returns-6 : tie.Need-returns-6
 returns-6 c =
     let a = c .before .before .args in
@@ -30,7 +34,7 @@ last-word-spec =
     (λ c. search needs)
     (λ c. search needs)
     (λ c. search needs)
-    (λ c. search needs)
+    returns-3
     (λ c. search needs)
     (λ c. search needs)
     returns-6

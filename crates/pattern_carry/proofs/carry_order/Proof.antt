@@ -21,8 +21,9 @@ returns c = rw (c .before .before .before .before .before .o .given .1) (c .befo
 returns-2 : tie.Need-returns-2
 returns-2 c =
     let turn = c .before .before .before .before .before in
+    let entry = turn .before .before .before in
     let is-turn = turn .o2 .given .1 in
-    rw is-turn (c .before .before .swap-twice .ensures ∙ sym (turn-swaps _ _ _ _ (rw is-turn at (turn .before .before .before .pre))))
+    rw is-turn (c .before .before .swap-twice .ensures ∙ sym (turn-swaps _ _ _ (entry .args .p .now) (rw is-turn at (entry .pre))))
 
 pub carry-order-spec : {M : Type 1} → statement M
 carry-order-spec =

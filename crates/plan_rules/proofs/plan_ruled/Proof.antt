@@ -1,7 +1,10 @@
 -- `plan_rules::plan_ruled` asks what the definition asks, in its order.
 use mathlib.Core.Path.{ap, _∙_}
+use Prim.Native.Nat.{_≤_, _<_}
+use native.Mathlib.Omega.{arith}
 use borrow.Author.Needs.{needs}
 use borrow.Author.Tests.{le-leb, lt-leb}
+use Rattle.listing.specs.Limits.{mostLegs}
 use Rattle.plan_rules.specs.Rules.{places, placesRuled, planRuled}
 use Rattle.plan_rules.proofs.plan_ruled.Statement.{statement}
 use Rattle.plan_rules.proofs.plan_ruled.Tie as tie
@@ -23,7 +26,8 @@ unfolding planRuled
 returns-4 c =
     let b = c .before .before in
     let a = b .before .before in
-    rw (le-leb _ _ (a .before .before .if1 .left), le-leb _ _ (a .if2 .left), le-leb _ _ (b .if3 .left), lt-leb _ _ (c .if4 .taken))
+    let many : mostLegs < a .before .before .before .before .args .p .legs = omega (arith, c .if4 .taken) in
+    rw (le-leb _ _ (a .before .before .if1 .left), le-leb _ _ (a .if2 .left), le-leb _ _ (b .if3 .left), lt-leb _ _ many)
 
 returns-5 : tie.Need-returns-5
 unfolding planRuled
@@ -32,7 +36,8 @@ returns-5 c =
     let b = d .before .before in
     let a = b .before .before in
     let p = a .before .before .before .before .args .p in
-    rw (le-leb _ _ (a .before .before .if1 .left), le-leb _ _ (a .if2 .left), le-leb _ _ (b .if3 .left), le-leb _ _ (d .if4 .left))
+    let few : p .legs ≤ mostLegs = omega (arith, d .if4 .left) in
+    rw (le-leb _ _ (a .before .before .if1 .left), le-leb _ _ (a .if2 .left), le-leb _ _ (b .if3 .left), le-leb _ _ few)
     (c .places-ruled .ensures ∙ ap (λ size. placesRuled size (p .legs) (places p)) (c .before .count-of .ensures))
 
 pub plan-ruled-spec : {M : Type 1} → statement M

@@ -14,17 +14,17 @@ Inv-loop buf₀ campaign₀ at₀ buf campaign at = Filling (campaign₀ .state)
 abbrev μ-loop : tie.MeasureT-loop
 μ-loop buf₀ campaign₀ at₀ buf campaign at = length buf - at
 
-loop-less : tie.Need-loop-less Inv-loop μ-loop
-loop-less c =
-    let w = c .before .before .before .before .before in
-    let l = w .before .before .loop in
-    line-less _ _ _ _ _ (l .inv) _ _ (w .request-line .ensures) (ap sequelTold (sym (c .enum-told .given .1)))
-
 loop-again : tie.Need-loop-again Inv-loop μ-loop
 loop-again c =
     let w = c .before .before .before .before .before in
     let l = w .before .before .loop in
     line-on _ _ _ _ _ (l .inv) _ _ (w .request-line .ensures) (ap sequelTold (sym (c .enum-told .given .1)))
+
+loop-less : tie.Need-loop-less Inv-loop μ-loop
+loop-less c =
+    let w = c .before .before .before .before .before in
+    let l = w .before .before .loop in
+    line-less _ _ _ _ _ (l .inv) _ _ (w .request-line .ensures) (ap sequelTold (sym (c .enum-told .given .1)))
 
 returns : tie.Need-returns Inv-loop μ-loop
 returns c =

@@ -42,7 +42,7 @@ returns-3 : tie.Need-returns-3
 returns-3 c =
     let g = c .before .before .before .before .before in
     let s = g .before .before .before .before .before in
-    unfit-errors (s .args .s) (s .pre) (leg g) (rw (← run g) (c .before .before .if2 .left)) (c .if3 .taken)
+    unfit-errors (s .args .s) (s .pre) (leg g) (rw (← run g) (c .before .before .if2 .left)) (omega (arith, c .if3 .taken))
 
 -- past the tests of leg and step
 inside : (c : tie.Else3) → InPlan (c .before .before .before .before .before .before .before .before .before .before .args .s)

@@ -19,12 +19,14 @@ after-order-requires c κs =
 after-order-requires-2 : tie.Need-after-order-requires-2
 after-order-requires-2 c κs =
     let s = c .before .before .before in
-    (s .pre .0, subst (λ v. InForm (s .args .n) (moveOf v)) (c .before .m2 .given .1) (s .pre .1) .0)
+    let two = subst (λ v. InForm (s .args .n) (moveOf v)) (c .before .m2 .given .1) (s .pre .1) in
+    (s .pre .0, search needs)
 
 after-order-requires-3 : tie.Need-after-order-requires-3
 after-order-requires-3 c κs =
     let s = c .before .before .before .before in
-    (s .pre .0, subst (λ v. InForm (s .args .n) (moveOf v)) (c .before .before .m2 .given .1) (s .pre .1) .1)
+    let two = subst (λ v. InForm (s .args .n) (moveOf v)) (c .before .before .m2 .given .1) (s .pre .1) in
+    (s .pre .0, search needs)
 
 returns : tie.Need-returns
 returns c =

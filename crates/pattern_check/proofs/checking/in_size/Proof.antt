@@ -4,5 +4,11 @@ use Rattle.pattern_check.proofs.Calls.{few-out, rest-in}
 use Rattle.pattern_check.proofs.checking.in_size.Statement.{statement}
 use Rattle.pattern_check.proofs.checking.in_size.Tie as tie
 
+returns : tie.Need-returns
+returns c = few-out _ _ (c .if1 .taken)
+
+returns-2 : tie.Need-returns-2
+returns-2 c = rest-in _ _ (c .if1 .left)
+
 pub in-size-spec : {M : Type 1} → statement M
-in-size-spec = tie.close (tie.spec (λ c. few-out _ _ (c .if1 .taken)) (λ c. rest-in _ _ (c .if1 .left)))
+in-size-spec = tie.close (tie.spec returns returns-2)

@@ -5,5 +5,8 @@ use Rattle.listing.proofs.Numbers.{odd-rest}
 use Rattle.pattern_steps.proofs.numbers.is_odd.Statement.{statement}
 use Rattle.pattern_steps.proofs.numbers.is_odd.Tie as tie
 
+returns : tie.Need-returns
+returns c = sym (odd-rest (c .args .i))
+
 pub is-odd-spec : {M : Type 1} → statement M
-is-odd-spec = tie.close (tie.spec (λ c. sym (odd-rest (c .args .i))))
+is-odd-spec = tie.close (tie.spec returns)

@@ -17,6 +17,9 @@ Inv-loop n k₀ rest₀ k rest = k + length (digitsOf rest) ≡ length (digitsOf
 abbrev μ-loop : tie.MeasureT-loop
 μ-loop n k₀ rest₀ k rest = rest
 
+loop-holds : tie.Need-loop-holds Inv-loop μ-loop
+loop-holds c = omega arith
+
 add-k : tie.Need-add-k Inv-loop μ-loop
 add-k c = omega (arith, length-some (c .before .loop .rest), digits-64 (c .before .before .args .n) (search needs))
 
@@ -27,4 +30,4 @@ returns : tie.Need-returns Inv-loop μ-loop
 returns c = omega (arith, length-one (c .before .loop .rest) (c .loop-test .left))
 
 pub places-spec : {M : Type 1} → statement M
-places-spec = tie.close (tie.spec Inv-loop μ-loop (λ c. omega arith) add-k (λ c. fewer-tens _ (c .loop-test .taken)) loop-again returns)
+places-spec = tie.close (tie.spec Inv-loop μ-loop loop-holds add-k (λ c. fewer-tens _ (c .loop-test .taken)) loop-again returns)

@@ -6,6 +6,10 @@ use Rattle.words.specs.Meaning.{numberOf}
 use Rattle.words.proofs.refusals.reason_number.Statement.{statement}
 use Rattle.words.proofs.refusals.reason_number.Tie as tie
 
+-- a text that ended early
+returns-11 : tie.Need-returns-11
+returns-11 c = ap numberOf (sym (c .enum-told11 .given .1))
+
 pub reason-number-spec : {M : Type 1} → statement M
 reason-number-spec =
     tie.close
@@ -37,7 +41,7 @@ reason-number-spec =
     (λ c. ap numberOf (sym (c .enum-told8 .given .1)))
     (λ c. ap numberOf (sym (c .enum-told9 .given .1)))
     (λ c. ap numberOf (sym (c .enum-told10 .given .1)))
-    (λ c. ap numberOf (sym (c .enum-told11 .given .1)))
+    returns-11
     (λ c. ap numberOf (sym (c .enum-told12 .given .1)))
     (λ c. ap numberOf (sym (c .enum-told13 .given .1)))
     (λ c. ap numberOf (sym (c .enum-told14 .given .1)))
