@@ -25,16 +25,6 @@ returns c =
 add-next : tie.Need-add-next
 add-next c = let s = c .before .before .before in omega (arith, counts-room (s .args .s) (sized s) (s .pre .0) (s .pre .1))
 
-returns-2 : tie.Need-returns-2
-returns-2 c =
-    let m = c .before .before .before in
-    let s = m .before .before in
-    report-kind 1 _ (s .args .s) _ (m .match .keys2)
-    (report-refused (report 1) _ (s .args .s) _ Errors 16 (c .refused2 .ensures) refl (full-answer (s .args .s) (s .pre .0) (s .pre .1) (c .before .if2 .taken)))
-
-add-next-3 : tie.Need-add-next-3
-add-next-3 c = let s = c .before .before .before in omega (arith, counts-room (s .args .s) (sized s) (s .pre .0) (s .pre .1))
-
 returns-3 : tie.Need-returns-3
 unfolding model.after
 returns-3 c =
@@ -43,6 +33,16 @@ returns-3 c =
     report-kind 0 _ (s .args .s) _ (m .match .keys1)
     (report-taken (report 0) _ (s .args .s) _ _ (c .taken .ensures) (ran-answer (s .args .s) (s .pre .0) (s .pre .1))
     (c .before .closed-mark .ensures ∙ ran-leaves (s .args .s)))
+
+returns-2 : tie.Need-returns-2
+returns-2 c =
+    let m = c .before .before .before in
+    let s = m .before .before in
+    report-kind 1 _ (s .args .s) _ (m .match .keys2)
+    (report-refused (report 1) _ (s .args .s) _ Errors 16 (c .refused2 .ensures) refl (full-answer (s .args .s) (s .pre .0) (s .pre .1) (omega (arith, c .before .if2 .taken))))
+
+add-next-3 : tie.Need-add-next-3
+add-next-3 c = let s = c .before .before .before in omega (arith, counts-room (s .args .s) (sized s) (s .pre .0) (s .pre .1))
 
 returns-4 : tie.Need-returns-4
 unfolding model.after
