@@ -89,8 +89,11 @@ changed claim-changed docs/USING.md 's/A call takes less than 16 KiB/A call take
 # ---- the edits
 copy edit-removed
 rm "$gate_copy/crates/listing/must-fail/self_join_allowed.edit"
-sed 's,`listing/must-fail/self_join_allowed.edit`,,' docs/PUBLIC.md >"$gate_copy/docs/PUBLIC.md"
-must_fail edit-removed 'edits, and the tree has at least'
+must_fail edit-removed "edits, and there were $edits_at_least"
+
+changed edit-without-its-line crates/listing/must-fail/modulo_toward_zero.edit '/^# refused at:/d' 'listing/modulo_toward_zero: 0 lines `# refused at:`'
+changed edit-of-a-text-that-is-gone crates/listing/specs/Around.antt 's/^modulo (negsuc k)/modulo (negsuc  k)/' \
+    'listing/modulo_toward_zero: an old text is not in specs/Around.antt'
 
 # ---- the kit and the other tools
 on_path no-kit rt 'the command rt is missing'
