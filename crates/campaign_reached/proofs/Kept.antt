@@ -7,7 +7,7 @@ use mathlib.Core.List.{List, [], _∷_, _++_, map}
 use Prim.Native.Nat.{suc, _≤_}
 use native.Mathlib.Omega.{arith}
 use lib.Dec.{ltb}
-use lib.ListN.{length, take, drop, length-append}
+use lib.ListN.{length, take, drop, length-append, length-drop}
 use lib.Seq.{length-take-le, take-append-seam, drop-append-seam}
 use Rattle.listing.proofs.Panels.{length-carry}
 use Rattle.promise.specs.Campaign as model
@@ -114,6 +114,14 @@ module _ (s : State) (k : Kept s) (c : Call) where
   pub left-kept : Kept (leftOf c s)
   unfolding leftOf
   left-kept = kept-at (after (settingOf s) c (answerOf c s) (momentOf s)) s k (long (answerOf c s))
+
+  -- as many places as it had
+  pub left-places : length (leftOf c s .panel) ≡ length (s .panel)
+  unfolding leftOf
+  left-places =
+      let n = s .plan .ports in
+      let q = after (settingOf s) c (answerOf c s) (momentOf s) .panel in
+      omega (arith, length-append q (drop n (s .panel)), long (answerOf c s), length-drop n (s .panel), k .room)
 
   -- the moment goes on as in the model
   pub left-model : momentOf (leftOf c s) ≡ after (settingOf s) c (answer (settingOf s) c (momentOf s)) (momentOf s)

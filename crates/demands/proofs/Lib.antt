@@ -4,6 +4,7 @@ pub mod One
 pub mod Two
 pub mod Three
 pub mod Bytes
+pub mod Words
 pub mod Refusals
 pub mod Ends
 pub mod Longest

@@ -2,5 +2,6 @@
 pub mod One
 pub mod Two
 pub mod Robot
+pub mod Words
 pub mod Prompt
 pub mod Only

@@ -183,9 +183,14 @@ module _ (ws : List ℕ) (e : within ws limits ≡ true) where
 one-state : {s t : State} → some s ≡ some t → s ≡ t
 one-state e = cc
 
--- the words of the state that words are, are these words
+-- the state that words are has the fields at their places
+pub at-state : (ws : List ℕ) (s : State) → stateIn ws ≡ some s → stateAt ws ≡ s
+at-state ws s e =
+    either (test (within ws limits)) (λ t. one-state (is-state ws t (stateAt ws) refl ∙ e)) (λ t. absurd (none-some s (no-state ws t ∙ e)))
+
+-- and its words are these words
 pub words-back : (ws : List ℕ) (s : State) → stateIn ws ≡ some s → stateWords s ≡ ws
 words-back ws s e =
     either (test (within ws limits))
-    (λ t. let f : stateAt ws ≡ s = one-state (is-state ws t (stateAt ws) refl ∙ e) in ap stateWords (sym f) ∙ words-of ws t)
+    (λ t. ap stateWords (sym (at-state ws s e)) ∙ words-of ws t)
     (λ t. absurd (none-some s (no-state ws t ∙ e)))
