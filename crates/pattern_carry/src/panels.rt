@@ -43,10 +43,10 @@ pub fn holder(panel: &[u8], port: Port) -> Jack
     Jack(0)
 }
 
-// The lent ports at the front of an array.
+// The lent ports at the front of an array, 0 beyond them.
 pub fn load(p: &[u8]) -> [u8; LONGEST]
     requires { ⌜ length (now p) ≤ mostPorts ⌝ }
-    ensures { λ r. ⌜ take (length (now (p .entry))) r ≡ now (p .entry) ⌝ }
+    ensures { λ r. ⌜ r ≡ padded mostPorts 0 (now (p .entry)) ⌝ }
 {
     let mut t = [0u8; LONGEST];
     let mut j: usize = 0;

@@ -1,4 +1,4 @@
--- `pattern_carry::panels::load` meets its contract: each turn copies one port more. The loop's invariant: the first j entries are those of p.
+-- `pattern_carry::panels::load` meets its contract: each turn copies one port more. The loop's invariant: the first j entries are those of p, the others 0.
 -- Assumes nothing.
 use mathlib.Core.Path.{_≡_, refl}
 use Prim.Native.Nat.{_≤_, _-_}
@@ -6,12 +6,13 @@ use native.Mathlib.Omega.{arith}
 use borrow.Author.Needs.{needs}
 use lib.ListN.{length, take}
 use Rattle.listing.specs.Limits.{mostPorts}
-use Rattle.pattern_carry.proofs.Filling.{copy-stored, copy-front}
+use Rattle.words.specs.Padded.{padded}
+use Rattle.pattern_carry.proofs.Filling.{places-stored, places-all}
 use Rattle.pattern_carry.proofs.panels.load.Statement.{statement}
 use Rattle.pattern_carry.proofs.panels.load.Tie as tie
 
 abbrev Inv-loop : tie.InvT-loop
-Inv-loop p t₀ j₀ t j = (j ≤ length p) × (length t ≡ mostPorts) × (take j t ≡ take j p)
+Inv-loop p t₀ j₀ t j = (j ≤ length p) × (length t ≡ mostPorts) × (t ≡ padded mostPorts 0 (take j p))
 
 abbrev μ-loop : tie.MeasureT-loop
 μ-loop p t₀ j₀ t j = length p - j
@@ -19,10 +20,10 @@ abbrev μ-loop : tie.MeasureT-loop
 loop-again : tie.Need-loop-again Inv-loop μ-loop
 loop-again c =
     let l = c .before .before in
-    (search needs, search needs, copy-stored _ (l .loop .t) (l .loop .j) (omega arith) (omega arith) (l .loop .inv .2))
+    (search needs, search needs, places-stored mostPorts _ (l .loop .t) (l .loop .j) (omega arith) (search needs) (l .loop .inv .2))
 
 returns : tie.Need-returns Inv-loop μ-loop
-returns c = let l = c .before in copy-front _ (l .loop .t) (l .loop .j) (omega arith) (l .loop .inv .2)
+returns c = let l = c .before in places-all mostPorts _ (l .loop .t) (l .loop .j) (omega arith) (l .loop .inv .2)
 
 pub load-spec : {M : Type 1} → statement M
 load-spec =

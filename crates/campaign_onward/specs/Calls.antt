@@ -1,0 +1,48 @@
+-- Going on after a power cut: a state that was saved, and the panel as it was read back. What the call tells, and the state that it leaves.
+-- Assumes nothing.
+use Prim.Native.Nat.{ℕ}
+use mathlib.Core.Bool.{false, cond, _&&_}
+use mathlib.Core.List.{List}
+use lib.Dec.{eqb}
+use lib.ListN.{length}
+use Rattle.listing.specs.Limits.{mostPorts}
+use Rattle.words.specs.Told.{Told, accepted, refused, nowhere, then}
+use Rattle.words.specs.Padded.{padded}
+use Rattle.pattern_check.specs.Calls.{checkAs}
+use Rattle.campaign_state.specs.Fitness.{fit}
+use Rattle.campaign_state.specs.declared.State.{State}
+
+-- the state with these places for its panel
+abbrev pub withPlaces : List ℕ → State → State
+withPlaces q s = record {
+  plan = s .plan;
+  panel = q;
+  leg = s .leg;
+  step = s .step;
+  covered = s .covered;
+  opened = s .opened;
+  errors = s .errors;
+  standing = s .standing;
+  ended = s .ended;
+}
+
+-- with a panel put in: its ports, and 0 beyond them
+abbrev pub panelIn : List ℕ → State → State
+panelIn p s = withPlaces (padded mostPorts 0 p) s
+
+-- 15, at no place, unless the panel has the state's ports and the state is fit with it
+unfoldable pub fitTold : State → List ℕ → Told (Unit {0})
+fitTold s p = cond (eqb (length p) (s .plan .ports) && fit (panelIn p s)) (accepted tt) (refused 15 nowhere)
+
+-- what the call tells: the panel's own refusals first (1, 3, 4), then 15
+unfoldable pub resumeOf : State → List ℕ → Told (Unit {0})
+resumeOf s p = then (checkAs false mostPorts p) (λ x. fitTold s p)
+
+-- the state that goes on: t if it was accepted; 'state stays' if it was refused
+abbrev pub goesOn : Told (Unit {0}) → State → State → State
+goesOn (accepted x) t s = t
+goesOn (refused k q) t s = s
+
+-- the state that is left
+unfoldable pub resumedOf : State → List ℕ → State
+resumedOf s p = goesOn (resumeOf s p) (panelIn p s) s
