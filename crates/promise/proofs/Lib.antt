@@ -11,6 +11,8 @@ pub mod Tallies
 pub mod Differing
 pub mod Spaces
 pub mod Leads
+pub mod Past
+pub mod Onward
 pub mod Promise
 pub mod Circuit
 pub mod Straight

@@ -13,6 +13,7 @@ use Rattle.promise.specs.Plan.{Lawful, Accepted, ranks, marks, number}
 use Rattle.promise.specs.Campaign.{State, withMark, tallied, error, Setting, here, rankOf, numberOf, todo}
 use Rattle.promise.specs.Fitness.{Fit}
 use Rattle.promise.specs.Bench.{Turn, leaves, acts, bench, Meets, isMark, fresh, numbered, planned, Again}
+use Rattle.promise.specs.Onward.{markOf, newest, newMark}
 use Rattle.promise.proofs.Tests.{clash, tells-eqb, tells-and}
 use Rattle.promise.proofs.Legs.{number-below, number-step, number-leg, number-last, length-ranks, ranks-at}
 use Rattle.promise.proofs.Ways.{way-done}
@@ -47,10 +48,6 @@ unfolding numbered
 length-numbered j [] = refl
 length-numbered j (r ∷ rs) = ap suc (length-numbered (suc j) rs)
 
--- the standing or next mark, with its number and rank
-abbrev markOf : Setting → State → ℕ × ℕ
-markOf C s = (numberOf C s, rankOf C s)
-
 -- from a state's mark on: that mark first
 list-at : (C : Setting) (s : State) → Fit C s → drop (numberOf C s) (planned C) ≡ markOf C s ∷ drop (suc (numberOf C s)) (planned C)
 list-at C s f =
@@ -66,18 +63,7 @@ list-over C =
 
 -- ---- the next mark that is no repeat
 
--- its number: all after the end; one on while a mark stands, or after an error (again); else that of the next mark
-unfoldable pub newest : Bool → Bool → Bool → ℕ → ℕ → ℕ
-newest true standing again total n = total
-newest false true again total n = suc n
-newest false false true total n = suc n
-newest false false false total n = n
-
--- the same of a state
-abbrev pub newMark : Setting → State → Bool → ℕ
-newMark C s again = newest (s .ended) (s .standing) again (marks (C .legs)) (numberOf C s)
-
--- the same where it is known whether the end is shown and a mark stands
+-- its number where it is known whether the end is shown and a mark stands
 pub new-by : (C : Setting) (s : State) (again en st : Bool) → s .ended ≡ en → s .standing ≡ st
     → newMark C s again ≡ newest en st again (marks (C .legs)) (numberOf C s)
 new-by C s again en st e f = ap₂ (λ x y. newest x y again (marks (C .legs)) (numberOf C s)) e f

@@ -1,7 +1,7 @@
 -- Every order, mark and closing report brings the end nearer, and an error puts it off by one mark: so calls that are not refused reach the end, after
 -- callsToEnd of them and two more for each error.
 -- Assumes nothing.
-use mathlib.Core.Path.{_≡_, refl, sym, ap, _∙_}
+use mathlib.Core.Path.{_≡_, refl, sym, ap, _∙_, subst}
 use mathlib.Core.Logic.{_≢_}
 use mathlib.Core.Bool.{Bool, true, false, cond, true≢false}
 use mathlib.Core.List.{List, [], _∷_}
@@ -13,9 +13,10 @@ use Rattle.listing.specs.Orders.{Order, carry}
 use Rattle.listing.proofs.Numbers.{either, test}
 use Rattle.promise.specs.Plan.{Lawful, Accepted, marks}
 use Rattle.promise.specs.Campaign.{State, withPanel, withMark, Call, request, report, reportOf, isError, error, tick, tallied, Answer, movement}
-use Rattle.promise.specs.Campaign.{mark, theEnd, taken, refusal, Setting, first, here, numberOf, todo, offer, answer, after}
+use Rattle.promise.specs.Campaign.{mark, theEnd, taken, refusal, Setting, first, here, numberOf, closedMarks, todo, offer, answer, after}
 use Rattle.promise.specs.Fitness.{Fit}
 use Rattle.promise.specs.Bench.{Turn, run, leaves, turns, leftBy, Act, inFront, acts, reports}
+use Rattle.promise.specs.Onward.{newest}
 use Rattle.promise.specs.Progress.{perMark, callsToEnd, howMany, work, broughtOn, Unrefused, dueCall, promptly}
 use Rattle.promise.proofs.Tests.{clash}
 use Rattle.promise.proofs.Legs.{number-below, number-first}
@@ -24,7 +25,7 @@ use Rattle.promise.proofs.Steps.{Closes, moves-on, hands-out, ends, clo
 use Rattle.promise.proofs.Steps.{errs, refuses, does-so, not-ended, closing-error, coming-here, over-here, step-on}
 use Rattle.promise.proofs.Steps.{fit-first, fit-after, History, stop, then, fit-start, fit-last, history}
 use Rattle.promise.proofs.Refusals.{offered-so, no-refusal, served, ran-taken}
-use Rattle.promise.proofs.Marks.{closed-so, newest, new-by, new-closed}
+use Rattle.promise.proofs.Marks.{closed-so, new-by, new-closed}
 use Rattle.promise.proofs.Tallies.{error-counts, counted-so}
 
 -- the work by its parts
@@ -115,14 +116,32 @@ module _ (C : Setting) (lawful : Lawful (C .family)) (accepted : Accepted (C .fa
       let over : todo C s ≡ some [] = over-here C lawful accepted s f (f .atMark st) in
       omega (arith, work-by C s false true (some []) en st over, work-by C (withMark false (tallied error s)) false false (some []) en refl over)
 
+  -- a fit state's work is at most what the marks that are not closed take
+  pub work-most : (s : State) → Fit C s → work C s ≤ (marks (C .legs) - closedMarks C s) * perMark C
+  work-most s f =
+      either (test (s .ended)) (λ en. omega (arith, work-by C s true (s .standing) (todo C s) en refl refl)) (λ en.
+      either (test (s .standing)) (λ st. at-mark en st) (λ st.
+      let w = work-open s f en st in
+      one-less (marks (C .legs) - closedMarks C s) (marks (C .legs) - suc (numberOf C s)) (C .family .ports - 1) (length (w .0)) (work C s) (one en) (w .1) (w .2)))
+    where
+      one : s .ended ≡ false → marks (C .legs) - closedMarks C s ≡ suc (marks (C .legs) - suc (numberOf C s))
+      one en =
+          ap (λ b. marks (C .legs) - cond b (marks (C .legs)) (numberOf C s)) en
+          ∙ omega (arith, number-below (C .legs) (s .leg) (s .step) (f .leg) (f .step))
+
+      at-mark : s .ended ≡ false → s .standing ≡ true → work C s ≤ (marks (C .legs) - closedMarks C s) * perMark C
+      at-mark en st =
+          let less : suc (work C s) ≤ (marks (C .legs) - closedMarks C s) * perMark C =
+          one-less (marks (C .legs) - closedMarks C s) (marks (C .legs) - suc (numberOf C s)) (C .family .ports - 1) 0 (suc (work C s)) (one en) (omega arith)
+          (ap suc (work-by C s false true (todo C s) en st refl) ∙ omega arith) in
+          omega arith
+
   -- the first state's work is at most what all marks take
   pub work-first : work C (first C) ≤ callsToEnd C
   unfolding first
   work-first =
-      let w = work-open (first C) (fit-first C lawful accepted) refl refl in
-      one-less (marks (C .legs)) (marks (C .legs) - 1) (C .family .ports - 1) (length (w .0)) (work C (first C))
-      (omega (arith, number-below (C .legs) 0 0 (accepted .someLeg) (omega arith))) (w .1)
-      (w .2 ∙ ap (λ k. (marks (C .legs) - suc k) * perMark C + (2 + length (w .0))) (number-first (C .legs)))
+      subst (λ k. work C (first C) ≤ k * perMark C) (ap (λ k. marks (C .legs) - k) (number-first (C .legs)) ∙ omega arith)
+      (work-most (first C) (fit-first C lawful accepted))
 
   -- ---- any calls
 
@@ -167,27 +186,37 @@ module _ (C : Setting) (lawful : Lawful (C .family)) (accepted : Accepted (C .fa
       (λ st. omega (arith, work-by C s false true (todo C s) en st refl))
       (λ st. omega (arith, work-by C s false false (todo C s) en st refl))
 
-  module _ (cs : List Call) where
-    -- the turns are a history
-    told : History C (first C) (turns C cs)
-    told = history C lawful accepted cs (first C) (fit-first C lawful accepted)
+  module _ (s : State) (f : Fit C s) (cs : List Call) where
+    -- the turns from any fit state on are a history
+    told : History C s (run C cs s)
+    told = history C lawful accepted cs s f
 
-    -- there are never more orders, marks and reports taken than all marks take and two for each error
+    -- there are never more orders, marks and reports taken than the marks that are left take and two for each error
+    pub brought-from : broughtOn (run C cs s) ≤ work C s + 2 * reports isError (acts (run C cs s))
+    brought-from = omega (arith, worked told)
+
+    -- calls that are not refused reach the end, if they are as many
+    pub ends-from : Unrefused (run C cs s) → work C s + 2 * reports isError (acts (run C cs s)) ≤ length cs → leaves s (run C cs s) .ended ≡ true
+    ends-from u many =
+        either (test (leaves s (run C cs s) .ended)) (λ e. e) (λ e.
+        absurd (omega (arith, worked told, all-bring told u e, length-run C cs s, some-work (leaves s (run C cs s)) e)))
+
+  module _ (cs : List Call) where
+    -- so from the first state on: never more than all marks take and two for each error
     pub brought-most : broughtOn (turns C cs) ≤ callsToEnd C + 2 * reports isError (acts (turns C cs))
-    brought-most = omega (arith, worked told, work-first)
+    brought-most = omega (arith, brought-from (first C) (fit-first C lawful accepted) cs, work-first)
 
     -- calls that are not refused reach the end, if they are as many
     pub reaches-end : Unrefused (turns C cs) → callsToEnd C + 2 * reports isError (acts (turns C cs)) ≤ length cs → leftBy C cs .ended ≡ true
-    reaches-end u many =
-        either (test (leftBy C cs .ended)) (λ e. e) (λ e.
-        absurd (omega (arith, worked told, work-first, all-bring told u e, length-run C cs (first C), some-work (leftBy C cs) e)))
+    reaches-end u many = ends-from (first C) (fit-first C lawful accepted) cs u (omega (arith, work-first))
 
     -- and since errors stop at the limit, so many calls reach it however many errors are reported
     pub reaches-end-always : Unrefused (turns C cs) → callsToEnd C + 2 * C .limit ≤ length cs → leftBy C cs .ended ≡ true
     unfolding first
     reaches-end-always u many =
-        let errors : leftBy C cs .errors ≡ reports isError (acts (turns C cs)) = counted-so C isError (λ s. s .errors) error-counts told ∙ omega arith in
-        reaches-end u (omega (arith, errors, fit-last told .errors))
+        let h : History C (first C) (turns C cs) = told (first C) (fit-first C lawful accepted) cs in
+        let errors : leftBy C cs .errors ≡ reports isError (acts (turns C cs)) = counted-so C isError (λ s. s .errors) error-counts h ∙ omega arith in
+        reaches-end u (omega (arith, errors, fit-last h .errors))
 
   -- ---- calls that are not refused
 
@@ -206,6 +235,11 @@ module _ (C : Setting) (lawful : Lawful (C .family)) (accepted : Accepted (C .fa
   due-unrefused zero s f = tt
   due-unrefused (suc n) s f =
       (due-answered s f, due-unrefused n (after C (dueCall C s) (answer C (dueCall C s) s) s) (fit-after C lawful accepted f (does-so C s f (dueCall C s))))
+
+  -- so a campaign taken up from any fit state, its marks all taken as run, has ended after as many calls as its work
+  pub promptly-ends-from : (s : State) → Fit C s → leaves s (run C (promptly C (work C s) s) s) .ended ≡ true
+  promptly-ends-from s f =
+      ends-from s f (promptly C (work C s) s) (due-unrefused (work C s) s f) (omega (arith, due-errors C (work C s) s, length-promptly C (work C s) s))
 
   -- so a campaign whose marks are all taken as run has ended after callsToEnd calls
   pub promptly-ends : leftBy C (promptly C (callsToEnd C) (first C)) .ended ≡ true

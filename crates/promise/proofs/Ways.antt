@@ -2,7 +2,7 @@
 -- Assumes nothing.
 use mathlib.Core.Path.{_≡_, refl, sym, ap, ap₂, _∙_, subst}
 use mathlib.Core.Bool.{Bool, true, false, cond, true≢false}
-use mathlib.Core.List.{List, [], _∷_, head-eq-of-cons-eq, tail-eq-of-cons-eq}
+use mathlib.Core.List.{List, [], _∷_, _++_, head-eq-of-cons-eq, tail-eq-of-cons-eq}
 use mathlib.Core.Option.{Option, none, some, orElse}
 use Prim.Native.Nat.{ℕ, zero, suc, _-_, _≤_, _<_}
 use native.Mathlib.Omega.{arith}
@@ -16,6 +16,7 @@ use Rattle.promise.specs.Carriage.{carriage}
 use Rattle.promise.specs.Plan.{cords, Passed, Straight, Family, Step, Lawful, Leg, rankAt}
 use Rattle.promise.specs.Campaign.{rest, toCome, found}
 use Rattle.promise.specs.Fitness.{OnTheWay}
+use Rattle.promise.specs.Onward.{carriedOut}
 use Rattle.promise.proofs.Tests.{Tells, clash, tells-permutation, tells-same, same-self}
 use Rattle.promise.proofs.Carriage.{First, carriage-first, carriage-reaches, carriage-few, carriage-shaped, carriage-still}
 
@@ -250,3 +251,16 @@ tells-way F l k q = (λ e. there (toCome F l k q) refl e, λ h. rw (way-found F 
 pub way-on : (F : Family) (l : Leg) (k : ℕ) → OnTheWay F l (suc k) (F .pattern (rankAt F l k))
 unfolding OnTheWay carryAll
 way-on F l k = (0, omega arith, refl)
+
+-- inside a leg the orders carried out and those still to come are the family's, and those carried out lead from the last mark's pattern to the panel
+pub way-gone : (F : Family) (l : Leg) (k : ℕ) (q : List ℕ) (vs : List Order) → toCome F l (suc k) q ≡ some vs
+    → let os = F .orders (l .back) (rankAt F l k) in
+    (carriedOut os (some vs) ++ vs ≡ os) × (carryAll (carriedOut os (some vs)) (F .pattern (rankAt F l k)) ≡ q)
+unfolding toCome
+way-gone F l k q vs h =
+    let os : List Order = F .orders (l .back) (rankAt F l k) in
+    let r : Rest (F .pattern (rankAt F l k)) os q vs = rest-so (F .pattern (rankAt F l k)) os q vs h in
+    let so-many : length os - length vs ≡ r .done = omega (arith, ap length (r .left), length-drop (r .done) os, r .within) in (
+      ap (λ i. take i os ++ vs) so-many ∙ ap (λ l. take (r .done) os ++ l) (sym (r .left)) ∙ take-append-drop (r .done) os,
+      ap (λ i. carryAll (take i os) (F .pattern (rankAt F l k))) so-many ∙ r .panel,
+    )
