@@ -1,0 +1,117 @@
+-- What a repeated call does after a power cut. Every call but one that gave an order may be repeated at once: the state comes out the same whether the cut
+-- lost it or not, so that nothing is counted twice. Orders need no repeat: the panel tells, even where several were not saved.
+-- Assumes nothing.
+use mathlib.Core.Path.{_≡_, refl, sym, ap, _∙_, subst}
+use mathlib.Core.Logic.{_≢_, _⊎_}
+use mathlib.Core.Bool.{true, false, cond}
+use mathlib.Core.List.{List}
+use Prim.Native.Nat.{ℕ, _≤_}
+use Rattle.listing.specs.Orders.{Order}
+use Rattle.listing.proofs.Numbers.{either, below?}
+use Rattle.promise.specs.Plan.{Lawful, Accepted, marks}
+use Rattle.promise.specs.Campaign.{State, withMark, Call, request, report, Answer, movement, mark, theEnd, taken, refusal, Setting, todo}
+use Rattle.promise.specs.Campaign.{next, offer, answer, after}
+use Rattle.promise.specs.Fitness.{Fit, Why, kindAbove, noMark, markStands}
+use Rattle.promise.specs.Bench.{Turn, run, leaves, acts}
+use Rattle.promise.specs.Onward.{Past, Agrees, andAll}
+use Rattle.promise.proofs.Refusals.{refused-so, served, ran-taken}
+use Rattle.promise.proofs.Steps.{Does, moves-on, hands-out, ends, closes, errs, refuses, does-so, History, stop, then, fit-last, history}
+use Rattle.promise.proofs.Marks.{closed-so}
+use Rattle.promise.proofs.Past.{past-after}
+use Rattle.promise_onward.specs.Resume.{resumed, TakenUp}
+use Rattle.promise_onward.specs.Cuts.{left, SavedFor, OnlyOrders}
+use Rattle.promise_onward.proofs.Calls.{Handed, left-fit, shows}
+
+-- a call for whose refusal there is a reason leaves the state
+stays : (C : Setting) (t : State) (c : Call) (k : ℕ) → Why C t c k → left C c t ≡ t
+unfolding after
+stays C t c k w = ap (λ a. after C c a t) (refused-so C t w)
+
+-- a report where no mark stands leaves the state
+report-stays : (C : Setting) (t : State) (kind : ℕ) → Fit C t → t .standing ≡ false → left C (report kind) t ≡ t
+report-stays C t kind f st =
+    either (below? 2 kind) (λ h. stays C t (report kind) 14 (kindAbove f h)) (λ h. stays C t (report kind) 12 (noMark f h st))
+
+-- what gave no order, given again on the state that it left, leaves that state
+repeated : {C : Setting} {s t : State} {c : Call} {a : Answer} → Does C s c a t → answer C c s ≡ a → ((o : Order) → a ≢ movement o) → Fit C t → left C c t ≡ t
+unfolding after
+repeated (moves-on o os st en w) e n f = absurd (n o refl)
+repeated {C} {s} (hands-out {room = room} st en w) e n f = stays C (withMark true s) (request room) 13 (markStands f refl)
+repeated {C} {s} {c = c} (ends en) e n f = ap (λ a. after C c a s) e
+repeated {C} {t = t} (closes {kind = kind} st cl x) e n f = report-stays C t kind f (closed-so x .standing)
+repeated {C} {t = t} (errs st lt) e n f = report-stays C t 1 f refl
+repeated {C} {s} {c = c} (refuses k x) e n f = ap (λ a. after C c a s) e
+
+module _ (C : Setting) (lawful : Lawful (C .family)) (accepted : Accepted (C .family) (C .legs)) (s : State) (f : Fit C s) where
+  -- ---- a call that gave no order
+
+  -- repeated on the saved state x, it leaves the same, whether its state was saved or not
+  pub repeat-so : (c : Call) → ((o : Order) → answer C c s ≢ movement o) → (x : State) → (x ≡ s) ⊎ (x ≡ left C c s) → left C c x ≡ left C c s
+  repeat-so c n x h = either h (ap (left C c)) (λ e. ap (left C c) e ∙ repeated (does-so C s f c) refl n (left-fit C lawful accepted s f c))
+
+  -- ---- a report that was taken
+
+  -- where the state after it was saved, any report given again is refused with 12: so it is not counted twice
+  pub report-refused : (kind : ℕ) → answer C (report kind) s ≡ taken → (again : ℕ) → again ≤ 2
+      → answer C (report again) (left C (report kind) s) ≡ refusal 12
+  report-refused kind e again i =
+      refused-so C (left C (report kind) s) (noMark (left-fit C lawful accepted s f (report kind)) i (shows C lawful accepted s f (report kind) taken e))
+
+  -- ---- a request that gave a mark
+
+  module _ (room k r : ℕ) (e : answer C (request room) s ≡ mark k r) where
+    -- the mark is handed out
+    handed : Handed C s k r
+    handed = shows C lawful accepted s f (request room) (mark k r) e
+
+    -- and is what is offered
+    offered : offer C s ≡ mark k r
+    unfolding offer
+    offered =
+        let h : Handed C s k r = handed in
+        ap (λ b. cond b (theEnd (marks (C .legs))) (next C s (todo C s))) (h .ended) ∙ ap (next C s) (h .over) ∙ cc
+
+    -- where the state before it was saved, the same mark is asked again, by any request with room for its line
+    pub mark-asked-again : (more : ℕ) → C .width (mark k r) ≤ more → answer C (request more) s ≡ mark k r
+    mark-asked-again more h = served C s more f (handed .standing) (subst (λ a. C .width a ≤ more) (sym offered) h) ∙ offered
+
+    -- where the state after it was saved the mark stands: a request is refused with 13, and the report that it ran is taken
+    pub mark-stands : (more : ℕ) → (answer C (request more) (left C (request room) s) ≡ refusal 13) × (answer C (report 0) (left C (request room) s) ≡ taken)
+    unfolding after
+    mark-stands more =
+        let t : State = left C (request room) s in
+        let g : Fit C t = left-fit C lawful accepted s f (request room) in
+        let st : t .standing ≡ true = ap (λ a. after C (request room) a s .standing) e in
+        (refused-so C t (markStands g st), ran-taken C t g st)
+
+-- ---- orders need not be saved one by one
+
+-- where nothing but orders came, the state before is saved for the one that is left: put into it, the panel that is left makes it
+pub orders-unsaved : {C : Setting} {s : State} {ts : List Turn} → History C s ts → OnlyOrders (acts ts) → SavedFor (leaves s ts) s
+unfolding acts leaves OnlyOrders
+orders-unsaved (stop f) h = refl
+orders-unsaved (then f (moves-on o os st en w) x) h = orders-unsaved x h
+orders-unsaved (then f (hands-out st en w) x) h = absurd h
+orders-unsaved (then f (ends en) x) h = orders-unsaved x h
+orders-unsaved (then f (closes st cl y) x) h = absurd h
+orders-unsaved (then f (errs st lt) x) h = absurd h
+orders-unsaved (then f (refuses k n) x) h = orders-unsaved x h
+
+-- so whichever state of such a row was saved, and after whichever of its orders the robot stopped: the panel decides
+pub orders-any-saved : {C : Setting} {s : State} {ts us : List Turn} → History C s ts → OnlyOrders (acts ts) → History C s us → OnlyOrders (acts us)
+    → SavedFor (leaves s us) (leaves s ts)
+orders-any-saved {s = s} {us = us} x h y i = ap (resumed (leaves s us .panel)) (sym (orders-unsaved x h)) ∙ orders-unsaved y i
+
+-- so after a cut in a row of orders, of which cs were asked for when the state was last saved and ds are carried out, the state after ds is taken up
+pub row-taken : (C : Setting) (lawful : Lawful (C .family)) (accepted : Accepted (C .family) (C .legs)) (s : State) → Fit C s → (b : Past) → Agrees C s b
+    → (cs ds : List Call) → OnlyOrders (acts (run C cs s)) → OnlyOrders (acts (run C ds s)) → (q : List ℕ) → q ≡ leaves s (run C ds s) .panel
+    → TakenUp C q (leaves s (run C cs s)) (leaves s (run C ds s)) (andAll b (s .panel) (acts (run C ds s)))
+row-taken C lawful accepted s f b g cs ds x y q e =
+    let h : History C s (run C cs s) = history C lawful accepted cs s f in
+    let k : History C s (run C ds s) = history C lawful accepted ds s f in
+    record {
+      same = ap (λ p. resumed p (leaves s (run C cs s))) e ∙ orders-any-saved h x k y;
+      fits = fit-last k;
+      panel = e;
+      past = past-after C lawful accepted b g k;
+    }

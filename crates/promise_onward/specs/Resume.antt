@@ -1,0 +1,36 @@
+-- A campaign taken up again: the panel that is read back, put into the saved state.
+-- Assumes nothing.
+use Prim.Native.Nat.{ℕ}
+use mathlib.Core.Path.{_≡_}
+use mathlib.Core.Bool.{true, false, cond}
+use mathlib.Core.List.{List}
+use Rattle.promise.specs.Campaign.{State, withPanel, Setting, here, wanted, fit}
+use Rattle.promise.specs.Fitness.{OnTheWay, Fit}
+use Rattle.promise.specs.Onward.{Past, Agrees}
+
+-- the saved state x with the panel q that was read back
+abbrev pub resumed : List ℕ → State → State
+resumed q x = withPanel q x
+
+-- what taking it up answers: the state to go on with, or a refusal
+pub data Resumption : Type 0 where
+  goesOn : State → Resumption
+  refused : ℕ → Resumption
+
+-- the campaign is taken up: the panel is put in, and the state that this makes is refused with 15 if it is unfit
+unfoldable pub resume : Setting → List ℕ → State → Resumption
+resume C q x = cond (fit C (resumed q x)) (goesOn (resumed q x)) (refused 15)
+
+-- the panel q may stand in the state s: 'the mark's pattern while a mark stands; any permutation before a leg's first mark; later in a leg' a panel on the
+-- way to the mark; 'after the end, the last mark's pattern'
+pub record MayStand (C : Setting) (s : State) (q : List ℕ) : Type 0 where
+  pub atMark : s .standing ≡ true → q ≡ wanted C s
+  pub atEnd : s .ended ≡ true → q ≡ wanted C s
+  pub between : s .standing ≡ false → s .ended ≡ false → OnTheWay (C .family) (here C s) (s .step) q
+
+-- the saved state x with the panel q is the state y: it is fit, its panel is the bench's, and what went before it, as it happened on the bench, is b
+pub record TakenUp (C : Setting) (q : List ℕ) (x y : State) (b : Past) : Type 0 where
+  pub same : resumed q x ≡ y
+  pub fits : Fit C y
+  pub panel : q ≡ y .panel
+  pub past : Agrees C y b
