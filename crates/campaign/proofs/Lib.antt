@@ -4,3 +4,4 @@ pub mod Written
 pub mod Tells
 pub mod Home
 pub mod Only
+pub mod Contracts

@@ -3,3 +3,4 @@ pub mod Joined
 pub mod Carried
 pub mod Only
 pub mod Refusals
+pub mod Contracts

@@ -3,3 +3,4 @@ pub mod Sound
 pub mod Calls
 pub mod Accepted
 pub mod Only
+pub mod Contracts

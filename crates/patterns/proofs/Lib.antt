@@ -2,3 +2,4 @@ pub mod Calls
 pub mod Only
 pub mod Accepted
 pub mod Around
+pub mod Contracts

@@ -4,3 +4,4 @@ pub mod Turns
 pub mod Longest
 pub mod Only
 pub mod Cases
+pub mod Contracts

@@ -5,3 +5,4 @@ pub mod Filling
 pub mod Progress
 pub mod Whole
 pub mod Only
+pub mod Contracts

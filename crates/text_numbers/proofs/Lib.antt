@@ -7,3 +7,4 @@ pub mod Texts
 pub mod Shape
 pub mod Only
 pub mod Cases
+pub mod Contracts

@@ -3,3 +3,4 @@ pub mod Meaning
 pub mod Shape
 pub mod Signs
 pub mod Padded
+pub mod Contract
