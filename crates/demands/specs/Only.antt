@@ -33,7 +33,7 @@ use Rattle.campaign.specs.Answers.{RequestIs, ReportIs, BeginIs}
 use Rattle.printing.specs.Answers.{fillBytes, PrintedIs}
 use Rattle.face_values.specs.Answers.{nothing, oneNumber}
 use Rattle.face_values.specs.Lines.{moveWords, lineIn}
-use Rattle.face_laws.specs.Only.{Only}
+use Rattle.face_values.specs.Only.{Only}
 use Rattle.face_laws.specs.Values.{lineAndPlace, orderAndBytes, bytesAndEnd}
 use Rattle.face_laws.specs.Calls as face
 use Rattle.face_laws.specs.Calls.{calledTold, calledWords, ordersTold, ordersWords, ordersBytes, beginTold, beginWords}

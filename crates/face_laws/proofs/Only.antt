@@ -16,7 +16,7 @@ use Rattle.line_format.specs.Calls.{writeOf, writeBytes}
 use Rattle.line_format.specs.Reading.{readOf}
 use Rattle.face_values.specs.Answers.{nothing, oneNumber}
 use Rattle.face_values.specs.Lines.{moveWords, lineIn}
-use Rattle.face_laws.specs.Only.{Only}
+use Rattle.face_values.specs.Only.{Only}
 use Rattle.face_laws.specs.Values.{lineAndPlace, orderAndBytes, bytesAndEnd}
 use Rattle.face_laws.specs.Calls.{calledTold, calledWords, requestBytes, ordersTold, ordersWords, ordersBytes, beginTold, beginWords}
 

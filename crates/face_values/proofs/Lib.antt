@@ -1,3 +1,4 @@
 pub mod Cases
 pub mod LineWords
 pub mod Tells
+pub mod Meets

@@ -1,2 +1,3 @@
 pub mod Answers
 pub mod Lines
+pub mod Only
