@@ -1,56 +1,86 @@
--- Nothing else meets a contract of a public call (`each-call-one`): the laws of the crates, in one place.
+-- Nothing else meets a contract of a public call (`each-call-one`): what each contract says (`-says`), and that this has one answer (`only-`), both laws of the
+-- call's crate.
 -- Assumes nothing.
+use mathlib.Core.Path.{_≡_}
+use denote.Ref.{now}
+use Rattle.words.specs.Contract.{Contract, Says, One}
 use Rattle.pattern_check.proofs.Only.{only-check}
+use Rattle.pattern_check.proofs.Contracts.{check-says, check-panel-says}
 use Rattle.patterns.proofs.Only.{only-count, only-rank, only-unrank, only-beside, only-step}
+use Rattle.patterns.proofs.Contracts.{count-says, rank-says, unrank-says, next-says, previous-says, step-says}
 use Rattle.panel.proofs.Only.{only-port-at, only-jack-of, only-carry}
+use Rattle.panel.proofs.Contracts.{port-at-says, jack-of-says, carry-says}
 use Rattle.text_numbers.proofs.Only.{only-read-number, only-read-signed, only-places, only-digits}
+use Rattle.text_numbers.proofs.Contracts.{read-number-says, read-signed-says, places-says, digits-says}
 use Rattle.text_keys.proofs.Only.{only-find, only-has-key}
-use Rattle.line_reader.proofs.Only.{only-read-line}
+use Rattle.text_keys.proofs.Contracts.{find-says, has-key-says}
 use Rattle.line_writer.proofs.Only.{only-write-line}
+use Rattle.line_writer.proofs.Contracts.{write-line-says}
+use Rattle.line_reader.proofs.Only.{only-read-line}
+use Rattle.line_reader.proofs.Contracts.{read-line-says}
 use Rattle.plans.proofs.Only.{only-read-plan}
+use Rattle.plans.proofs.Contracts.{read-plan-says}
 use Rattle.campaign.proofs.Only.{only-request, only-request-bytes, only-report, only-begin}
+use Rattle.campaign.proofs.Contracts.{begin-says, request-says, report-says}
 use Rattle.printing.proofs.Only.{only-fill}
+use Rattle.printing.proofs.Contracts.{fill-says}
 use Rattle.face_laws.proofs.Only as face
+use Rattle.face_patterns.proofs.Contracts as face-patterns
+use Rattle.face_panel.proofs.Contracts as face-panel
+use Rattle.face_lines.proofs.Contracts as face-lines
+use Rattle.face_campaign.proofs.Contracts as face-campaign
 use Rattle.demands.specs.Only.{EachCallOne}
+
+-- two runs give the same if what the contract says of them makes them so
+one-by : {K : Type 0} {A R E L : K → Type 0} {learnt this : Contract K A R E} {gives : (κs : K) → R κs → E κs → L κs}
+    → Says learnt this → One this gives → One learnt gives
+one-by says one κs a r s e f h k = one κs a r s e f (says κs a r e h) (says κs a s f k)
+
+-- the answer and the bytes beside it
+both : {X Y : Type 0} {r s : X} {b c : Y} → (r ≡ s) × (b ≡ c) → _≡_ {A = X × Y} (r, b) (s, c)
+both p = λ i. (p .0 i, p .1 i)
 
 pub each-call-one : EachCallOne
 each-call-one = record {
-  check = only-check;
-  count = only-count;
-  rank = only-rank;
-  unrank = only-unrank;
-  beside = only-beside;
-  step = only-step;
-  portAt = only-port-at;
-  jackOfPort = only-jack-of;
-  carry = only-carry;
-  readNumber = only-read-number;
-  readSigned = only-read-signed;
-  places = only-places;
-  digits = only-digits;
-  find = only-find;
-  hasKey = only-has-key;
-  readLine = only-read-line;
-  writeLine = only-write-line;
-  readPlan = only-read-plan;
-  request = only-request;
-  requestBytes = only-request-bytes;
-  report = only-report;
-  begin = only-begin;
-  fill = only-fill;
-  faceCheck = face.only-check;
-  faceCount = face.only-count;
-  faceRank = face.only-rank;
-  faceUnrank = face.only-unrank;
-  faceBeside = face.only-beside;
-  faceStep = face.only-step;
-  facePortAt = face.only-port-at;
-  faceJackOf = face.only-jack-of;
-  faceCarry = face.only-carry;
-  faceWriteLine = face.only-write-line;
-  faceReadLine = face.only-read-line;
-  faceBegin = face.only-begin;
-  faceRequest = face.only-request;
-  faceReport = face.only-report;
-  faceOrders = face.only-orders;
+  check = one-by check-says (λ κs a r s e f. only-check _ _ r s);
+  checkPanel = one-by check-panel-says (λ κs a r s e f. only-check _ _ r s);
+  count = one-by count-says (λ κs a r s e f. only-count _ r s);
+  rank = one-by rank-says (λ κs a r s e f. only-rank _ r s);
+  unrank = one-by unrank-says (λ κs a r s e f h k. both (only-unrank _ _ r s _ _ (h .0) (h .1) (k .0) (k .1)));
+  next = one-by next-says (λ κs a r s e f h k. both (only-beside _ _ r s _ _ (h .0) (h .1) (k .0) (k .1)));
+  previous = one-by previous-says (λ κs a r s e f h k. both (only-beside _ _ r s _ _ (h .0) (h .1) (k .0) (k .1)));
+  step = one-by step-says (λ κs a r s e f. only-step _ _ _ r s);
+  portAt = one-by port-at-says (λ κs a r s e f. only-port-at _ _ r s);
+  jackOf = one-by jack-of-says (λ κs a r s e f. only-jack-of _ _ r s);
+  carry = one-by carry-says (λ κs a r s e f h k. both (only-carry _ _ r s _ _ (h .0) (h .1) (k .0) (k .1)));
+  readNumber = one-by read-number-says (λ κs a r s e f. only-read-number _ r s);
+  readSigned = one-by read-signed-says (λ κs a r s e f. only-read-signed _ r s);
+  places = one-by places-says (λ κs a r s e f. only-places _ r s);
+  digits = one-by digits-says (λ κs a r s e f. only-digits _ r s);
+  find = one-by find-says (λ κs a r s e f. only-find _ _ r s);
+  hasKey = one-by has-key-says (λ κs a r s e f. only-has-key _ _ r s);
+  writeLine = one-by write-line-says (λ κs a r s e f h k. both (only-write-line _ _ r s _ _ (h .0) (h .1) (k .0) (k .1)));
+  readLine = one-by read-line-says (λ κs a r s e f. only-read-line _ _ r s);
+  readPlan = one-by read-plan-says (λ κs a r s e f. only-read-plan _ r s);
+  begin = one-by begin-says (λ κs a r s e f. only-begin _ r s);
+  request = one-by request-says (λ κs a r s e f h k. both (only-request _ _ _ r s (h .0) (k .0), only-request-bytes _ _ _ _ (h .1) (k .1)));
+  report = one-by report-says (λ κs a r s e f. only-report _ _ _ r s);
+  fill = one-by fill-says (λ κs (c, (buf, _)) r s e f h k. both (only-fill (c .state) (now buf) r s _ _ (h .0) (h .1) (k .0) (k .1)));
+  faceCheck = one-by face-patterns.check-says (λ κs a r s e f. face.only-check _ _ _ _);
+  faceCheckPanel = one-by face-patterns.check-panel-says (λ κs a r s e f. face.only-check _ _ _ _);
+  faceCount = one-by face-patterns.count-says (λ κs a r s e f. face.only-count _ _ _);
+  faceRank = one-by face-patterns.rank-says (λ κs a r s e f. face.only-rank _ _ _);
+  faceUnrank = one-by face-patterns.unrank-says (λ κs a r s e f. face.only-unrank _ _ _ _);
+  faceNext = one-by face-patterns.next-says (λ κs a r s e f. face.only-beside _ _ _ _);
+  facePrevious = one-by face-patterns.previous-says (λ κs a r s e f. face.only-beside _ _ _ _);
+  faceStep = one-by face-patterns.step-says (λ κs a r s e f. face.only-step _ _ _ _ _);
+  facePortAt = one-by face-panel.port-at-says (λ κs a r s e f. face.only-port-at _ _ _ _);
+  faceJackOf = one-by face-panel.jack-of-says (λ κs a r s e f. face.only-jack-of _ _ _ _);
+  faceCarry = one-by face-panel.carry-says (λ κs (panel, (line, _)) r s e f. face.only-carry (now line) (now panel) _ _);
+  faceWriteLine = one-by face-lines.write-line-says (λ κs (line, (buf, _)) r s e f. face.only-write-line (now line) (now buf) _ _);
+  faceReadLine = one-by face-lines.read-line-says (λ κs a r s e f. face.only-read-line _ _ _ _);
+  faceBegin = one-by face-campaign.begin-says (λ κs a r s e f. face.only-begin _ _ _ _);
+  faceRequest = one-by face-campaign.request-says (λ κs (state, (buf, _)) r s e f. face.only-request (now state) (now buf) _ _);
+  faceReport = one-by face-campaign.report-says (λ κs a r s e f. face.only-report _ _ _ _);
+  faceOrders = one-by face-campaign.orders-says (λ κs (state, (buf, _)) r s e f. face.only-orders (now state) (now buf) _ _);
 }

@@ -1,97 +1,110 @@
--- 'Prove that nothing else would satisfy it': of each public call, that its contract is met by one answer, with one list of final bytes for each lent slice.
+-- 'Prove that nothing else would satisfy it': of each public call, that two runs on the same input that both meet the call's own contract give the same answer
+-- and leave the same in each lent slice. `Learnt` is the contract itself, all of its clauses, as the kit makes it of the source.
 -- Assumes nothing.
 use Prim.Native.Nat.{ℕ}
-use mathlib.Core.Path.{_≡_}
-use mathlib.Core.Bool.{Bool}
 use mathlib.Core.List.{List, [], _∷_}
-use lib.IntN.{ℤ}
-use lib.ListN.{length}
-use Rattle.words.specs.Meaning.{numberedTold, outcomeTold}
-use Rattle.listing.specs.Limits.{mostPorts, mostLegs, largest64}
-use Rattle.words.specs.declared.Line.{Line}
-use Rattle.pattern_check.specs.Calls.{checkAs}
-use Rattle.patterns.specs.Calls.{countOf, rankOf, unrankOf, unrankBytes, besideOf, besideBytes, stepOf}
-use Rattle.patterns.specs.Answers.{movedTold}
-use Rattle.panel.specs.Calls.{portOf, jackOf, carryOf, carryBytes}
-use Rattle.panel.specs.Answers.{lookedTold, foundTold}
-use Rattle.text_numbers.specs.Decimal.{digitsOf, numberUpTo}
-use Rattle.text_numbers.specs.Signed.{signedUpTo}
-use Rattle.text_numbers.specs.Answers.{readIs, signedIs, TextOf}
-use Rattle.text_keys.specs.Parts.{firstOf, begins}
-use Rattle.text_keys.specs.Answers.{foundIs}
-use Rattle.line_format.specs.Calls.{writeOf, writeBytes}
-use Rattle.line_format.specs.Reading.{readOf}
-use Rattle.line_reader.specs.Answers.{readTold}
-use Rattle.line_writer.specs.Answers.{writtenTold}
-use Rattle.plans.specs.Calls.{readPlanOf}
-use Rattle.plans.specs.Answers.{Answers}
-use Rattle.promise.specs.Campaign as model
-use Rattle.promise.specs.Campaign.{Call}
-use Rattle.campaign_state.specs.declared.State.{State}
-use Rattle.campaign.specs.Calls.{bytesOf}
-use Rattle.campaign.specs.Answers.{RequestIs, ReportIs, BeginIs}
-use Rattle.printing.specs.Answers.{fillBytes, PrintedIs}
-use Rattle.face_values.specs.Answers.{nothing, oneNumber}
-use Rattle.face_values.specs.Lines.{moveWords, lineIn}
-use Rattle.face_values.specs.Only.{Only}
-use Rattle.face_laws.specs.Values.{lineAndPlace, orderAndBytes, bytesAndEnd}
-use Rattle.face_laws.specs.Calls as face
-use Rattle.face_laws.specs.Calls.{calledTold, calledWords, ordersTold, ordersWords, ordersBytes, beginTold, beginWords}
+use denote.Ref.{now}
+use Rattle.words.specs.Contract.{Contract, One}
+use Rattle.face_values.specs.Only.{result}
+use Rattle.pattern_check.proofs.checking.check.Reads as check
+use Rattle.pattern_check.proofs.checking.check_panel.Reads as check-panel
+use Rattle.patterns.proofs.counting.count.Reads as count
+use Rattle.patterns.proofs.ranking.rank.Reads as rank
+use Rattle.patterns.proofs.ranking.unrank.Reads as unrank
+use Rattle.patterns.proofs.neighbours.next.Reads as next
+use Rattle.patterns.proofs.neighbours.previous.Reads as previous
+use Rattle.patterns.proofs.counting.step.Reads as step
+use Rattle.panel.proofs.lookups.port_at.Reads as port-at
+use Rattle.panel.proofs.lookups.jack_of.Reads as jack-of
+use Rattle.panel.proofs.lines.carry.Reads as carry
+use Rattle.text_numbers.proofs.reading.read_number.Reads as read-number
+use Rattle.text_numbers.proofs.reading.read_signed.Reads as read-signed
+use Rattle.text_numbers.proofs.writing.places.Reads as places
+use Rattle.text_numbers.proofs.writing.digits.Reads as digits
+use Rattle.text_keys.proofs.find.Reads as find
+use Rattle.text_keys.proofs.has_key.Reads as has-key
+use Rattle.line_writer.proofs.order_lines.write_line.Reads as write-line
+use Rattle.line_reader.proofs.order_lines.read_line.Reads as read-line
+use Rattle.plans.proofs.reading.read_plan.Reads as read-plan
+use Rattle.campaign.proofs.Campaign.begin.Reads as begin
+use Rattle.campaign.proofs.Campaign.request.Reads as request
+use Rattle.campaign.proofs.Campaign.report.Reads as report
+use Rattle.printing.proofs.fill.Reads as fill
+use Rattle.face_patterns.proofs.jidrofex_check.Reads as face-check
+use Rattle.face_patterns.proofs.jidrofex_check_panel.Reads as face-check-panel
+use Rattle.face_patterns.proofs.jidrofex_count.Reads as face-count
+use Rattle.face_patterns.proofs.jidrofex_rank.Reads as face-rank
+use Rattle.face_patterns.proofs.jidrofex_unrank.Reads as face-unrank
+use Rattle.face_patterns.proofs.jidrofex_next.Reads as face-next
+use Rattle.face_patterns.proofs.jidrofex_previous.Reads as face-previous
+use Rattle.face_patterns.proofs.jidrofex_step.Reads as face-step
+use Rattle.face_panel.proofs.jidrofex_port_at.Reads as face-port-at
+use Rattle.face_panel.proofs.jidrofex_jack_of.Reads as face-jack-of
+use Rattle.face_panel.proofs.jidrofex_carry.Reads as face-carry
+use Rattle.face_lines.proofs.jidrofex_write_line.Reads as face-write-line
+use Rattle.face_lines.proofs.jidrofex_read_line.Reads as face-read-line
+use Rattle.face_campaign.proofs.jidrofex_begin.Reads as face-begin
+use Rattle.face_campaign.proofs.jidrofex_request.Reads as face-request
+use Rattle.face_campaign.proofs.jidrofex_report.Reads as face-report
+use Rattle.face_campaign.proofs.jidrofex_orders.Reads as face-orders
 
--- one answer at most meets a contract
-abbrev pub One : {A : Type 0} → (A → Type 0) → Type 0
-One {A} Meets = (r s : A) → Meets r → Meets s → r ≡ s
+-- one answer: of a call that leaves nothing in what it was lent
+abbrev pub OneAnswer : {K : Type 0} {A R E : K → Type 0} → Contract K A R E → Type 0
+OneAnswer learnt = One learnt (λ κs r e. r)
 
--- and one list of bytes with it, those left
-abbrev pub OneWith : {A : Type 0} → (A → Type 0) → List ℕ → Type 0
-OneWith {A} Meets left = (r s : A) (b c : List ℕ) → Meets r → b ≡ left → Meets s → c ≡ left → (r ≡ s) × (b ≡ c)
+-- one answer, and with it the bytes that are left in a lent slice
+abbrev pub OneWith : {K : Type 0} {A R E : K → Type 0} → Contract K A R E → ((κs : K) → E κs → List ℕ) → Type 0
+OneWith {R = R} learnt left = One {L = λ κs. R κs × List ℕ} learnt (λ κs r e. (r, left κs e))
 
 -- the public calls, by crate
 pub record EachCallOne : Type 0 where
   -- ---- checks
-  pub check : (pattern : Bool) (p : List ℕ) → One (λ r. outcomeTold r ≡ checkAs pattern mostPorts p)
+  pub check : OneAnswer check.Learnt
+  pub checkPanel : OneAnswer check-panel.Learnt
   -- ---- patterns
-  pub count : (n : ℕ) → One (λ r. numberedTold r ≡ countOf mostPorts n)
-  pub rank : (p : List ℕ) → One (λ r. numberedTold r ≡ rankOf mostPorts p)
-  pub unrank : (k : ℕ) (out : List ℕ) → OneWith (λ r. outcomeTold r ≡ unrankOf mostPorts k out) (unrankBytes mostPorts k out)
-  pub beside : (back : Bool) (p : List ℕ) → OneWith (λ r. movedTold r ≡ besideOf mostPorts back p) (besideBytes mostPorts back p)
-  pub step : (n k : ℕ) (z : ℤ) → One (λ r. numberedTold r ≡ stepOf mostPorts n k z)
+  pub count : OneAnswer count.Learnt
+  pub rank : OneAnswer rank.Learnt
+  pub unrank : OneWith unrank.Learnt (λ κs (_, (out, _)). now out)
+  pub next : OneWith next.Learnt (λ κs (p, _). now p)
+  pub previous : OneWith previous.Learnt (λ κs (p, _). now p)
+  pub step : OneAnswer step.Learnt
   -- ---- panel
-  pub portAt : (p : List ℕ) (j : ℕ) → One (λ r. lookedTold r ≡ portOf mostPorts p j)
-  pub jackOfPort : (p : List ℕ) (v : ℕ) → One (λ r. foundTold r ≡ jackOf mostPorts p v)
-  pub carry : (l : Line) (p : List ℕ) → OneWith (λ r. outcomeTold r ≡ carryOf mostPorts l p) (carryBytes mostPorts l p)
+  pub portAt : OneAnswer port-at.Learnt
+  pub jackOf : OneAnswer jack-of.Learnt
+  pub carry : OneWith carry.Learnt (λ κs (panel, _). now panel)
   -- ---- numbers and texts
-  pub readNumber : (t : List ℕ) → One (λ r. readIs r ≡ numberUpTo largest64 t)
-  pub readSigned : (t : List ℕ) → One (λ r. signedIs r ≡ signedUpTo largest64 t)
-  pub places : (n : ℕ) → One (λ r. r ≡ length (digitsOf n))
-  pub digits : (n : ℕ) → One (TextOf n)
-  pub find : (b : ℕ) (t : List ℕ) → One (λ r. foundIs r ≡ firstOf b t)
-  pub hasKey : (key t : List ℕ) → One (λ r. r ≡ begins key t)
+  pub readNumber : OneAnswer read-number.Learnt
+  pub readSigned : OneAnswer read-signed.Learnt
+  pub places : OneAnswer places.Learnt
+  pub digits : OneAnswer digits.Learnt
+  pub find : OneAnswer find.Learnt
+  pub hasKey : OneAnswer has-key.Learnt
   -- ---- order lines
-  pub readLine : (t : List ℕ) (place : ℕ) → One (λ r. readTold r ≡ readOf largest64 mostPorts t place)
-  pub writeLine : (l : Line) (buf : List ℕ) → OneWith (λ r. writtenTold r ≡ writeOf mostPorts l buf) (writeBytes mostPorts l buf)
+  pub writeLine : OneWith write-line.Learnt (λ κs (_, (buf, _)). now buf)
+  pub readLine : OneAnswer read-line.Learnt
   -- ---- plans
-  pub readPlan : (t : List ℕ) → One (Answers mostLegs (readPlanOf t))
+  pub readPlan : OneAnswer read-plan.Learnt
   -- ---- the campaign
-  pub request : (c : Call) (a : model.Answer) (s : State) → One (RequestIs c a s)
-  pub requestBytes : (s : State) (buf : List ℕ) → One (λ b. b ≡ bytesOf s buf)
-  pub report : (c : Call) (a : model.Answer) (s : State) → One (ReportIs c a s)
-  pub begin : (t : List ℕ) → One (BeginIs t)
+  pub begin : OneAnswer begin.Learnt
+  pub request : OneWith request.Learnt (λ κs (_, (buf, _)). now buf)
+  pub report : OneAnswer report.Learnt
   -- ---- lines in bulk
-  pub fill : (s : State) (buf : List ℕ) → OneWith (PrintedIs (length buf) s) (fillBytes s buf)
+  pub fill : OneWith fill.Learnt (λ κs (_, (buf, _)). now buf)
   -- ---- the calls for C: the number, the words of the answer and each lent slice
-  pub faceCheck : (pattern : Bool) (p : List ℕ) → Only nothing (checkAs pattern mostPorts p) []
-  pub faceCount : (n : ℕ) → Only oneNumber (countOf mostPorts n) []
-  pub faceRank : (p : List ℕ) → Only oneNumber (rankOf mostPorts p) []
-  pub faceUnrank : (k : ℕ) (p : List ℕ) → Only nothing (unrankOf mostPorts k p) (unrankBytes mostPorts k p ∷ [])
-  pub faceBeside : (back : Bool) (p : List ℕ) → Only moveWords (besideOf mostPorts back p) (besideBytes mostPorts back p ∷ [])
-  pub faceStep : (n k : ℕ) (z : ℤ) → Only oneNumber (stepOf mostPorts n k z) []
-  pub facePortAt : (p : List ℕ) (j : ℕ) → Only oneNumber (portOf mostPorts p j) []
-  pub faceJackOf : (p : List ℕ) (v : ℕ) → Only oneNumber (jackOf mostPorts p v) []
-  pub faceCarry : (l p : List ℕ) → Only nothing (carryOf mostPorts (lineIn l) p) (carryBytes mostPorts (lineIn l) p ∷ [])
-  pub faceWriteLine : (l buf : List ℕ) → Only oneNumber (writeOf mostPorts (lineIn l) buf) (writeBytes mostPorts (lineIn l) buf ∷ [])
-  pub faceReadLine : (t : List ℕ) (place : ℕ) → Only lineAndPlace (readOf largest64 mostPorts t place) []
-  pub faceBegin : (t ws : List ℕ) → Only nothing (beginTold t ws) (beginWords t ws ∷ [])
-  pub faceRequest : (ws buf : List ℕ) → let c = model.request (length buf) in Only orderAndBytes (calledTold c ws) (calledWords c ws ∷ face.requestBytes ws buf ∷ [])
-  pub faceReport : (ws : List ℕ) (kind : ℕ) → let c = model.report kind in Only nothing (calledTold c ws) (calledWords c ws ∷ [])
-  pub faceOrders : (ws buf : List ℕ) → Only bytesAndEnd (ordersTold (length buf) ws) (ordersWords (length buf) ws ∷ ordersBytes ws buf ∷ [])
+  pub faceCheck : One face-check.Learnt (λ κs r (_, (answer, _)). result r (now answer) [])
+  pub faceCheckPanel : One face-check-panel.Learnt (λ κs r (_, (answer, _)). result r (now answer) [])
+  pub faceCount : One face-count.Learnt (λ κs r (_, (answer, _)). result r (now answer) [])
+  pub faceRank : One face-rank.Learnt (λ κs r (_, (answer, _)). result r (now answer) [])
+  pub faceUnrank : One face-unrank.Learnt (λ κs r (_, (p, (answer, _))). result r (now answer) (now p ∷ []))
+  pub faceNext : One face-next.Learnt (λ κs r (p, (answer, _)). result r (now answer) (now p ∷ []))
+  pub facePrevious : One face-previous.Learnt (λ κs r (p, (answer, _)). result r (now answer) (now p ∷ []))
+  pub faceStep : One face-step.Learnt (λ κs r (_, (_, (_, (answer, _)))). result r (now answer) [])
+  pub facePortAt : One face-port-at.Learnt (λ κs r (_, (_, (answer, _))). result r (now answer) [])
+  pub faceJackOf : One face-jack-of.Learnt (λ κs r (_, (_, (answer, _))). result r (now answer) [])
+  pub faceCarry : One face-carry.Learnt (λ κs r (panel, (_, (answer, _))). result r (now answer) (now panel ∷ []))
+  pub faceWriteLine : One face-write-line.Learnt (λ κs r (_, (buf, (answer, _))). result r (now answer) (now buf ∷ []))
+  pub faceReadLine : One face-read-line.Learnt (λ κs r (_, (_, (answer, _))). result r (now answer) [])
+  pub faceBegin : One face-begin.Learnt (λ κs r (_, (state, (answer, _))). result r (now answer) (now state ∷ []))
+  pub faceRequest : One face-request.Learnt (λ κs r (state, (buf, (answer, _))). result r (now answer) (now state ∷ now buf ∷ []))
+  pub faceReport : One face-report.Learnt (λ κs r (state, (_, (answer, _))). result r (now answer) (now state ∷ []))
+  pub faceOrders : One face-orders.Learnt (λ κs r (state, (buf, (answer, _))). result r (now answer) (now state ∷ now buf ∷ []))
