@@ -86,6 +86,10 @@ changed law-that-is-not-there README.md 's/`demands.Two.demand-two`/`demands.Two
 changed floor-left-out docs/USING.md '$d' 'docs/USING.md does not say in its last line how many it cites at least'
 changed claim-changed docs/USING.md 's/A call takes less than 16 KiB/A call takes less than 8 KiB/' 'docs/WORKING.md quotes a claim that its page does not make'
 
+# ---- the public calls
+changed contract-that-no-law-holds crates/patterns/proofs/Contracts.antt '/^pub rank-says/d' 'a call whose contract no law holds: rank-says of patterns'
+changed call-without-its-field crates/demands/specs/Only.antt '/^  pub faceRequest /d' 'a call whose contract no law holds: a field for jidrofex_request of face_campaign'
+
 # ---- the edits
 copy edit-removed
 rm "$gate_copy/crates/listing/must-fail/self_join_allowed.edit"

@@ -1,5 +1,6 @@
 # The public calls: docs/PUBLIC.md has each call under a heading with its signature as the source has it, and none of them has a `requires`; the header's calls
-# are the face's, docs/PUBLIC.md names them all, and none has a `requires`.
+# are the face's, docs/PUBLIC.md names them all, and none has a `requires`; of every call there is the law of its own contract, and a field of the record that
+# there is one answer to each.
 
 # public_clauses NAME FILE..: the lines from the function's signature to its body, joined, blanks as one
 public_clauses() {
@@ -42,4 +43,28 @@ elif [ -n "$public_wrong" ]; then
     fail "a call for C with a requires, or one that docs/PUBLIC.md does not name: $(echo $public_wrong)"
 else
     pass "the header's $(echo "$public_header" | grep -c .) calls are the face's, docs/PUBLIC.md names each, and none has a requires"
+fi
+
+# public_unsaid CRATE FUNCTION NAME: what is missing of the law NAME-says on the contract of a crate's function, and of its field in EachCallOne
+public_unsaid() {
+    grep -qs "^use Rattle·$1·proofs\.proofs\.\(.*\.\)*$2\.Reads as $3\$" "crates/$1/proofs/Contracts.antt" &&
+        grep -q "^pub $3-says : Says $3\.Learnt" "crates/$1/proofs/Contracts.antt" || echo "$3-says of $1"
+    public_alias=$(sed -n "s/^use Rattle·$1\.proofs\.\(.*\.\)*$2\.Reads as \(.*\)/\2/p" crates/demands/specs/Only.antt)
+    grep -qE "^  pub [a-zA-Z]+ : One[a-zA-Z]* ${public_alias:-none}\.Learnt( |\$)" crates/demands/specs/Only.antt || echo "a field for $2 of $1 in EachCallOne"
+}
+public_wrong=$(
+    echo "$public_calls" | while read -r crate call; do
+        call=${call#Campaign::}
+        call=${call%%(*}
+        public_unsaid "$crate" "$call" "$(echo "$call" | tr _ -)"
+    done
+    for call in $public_face; do
+        crate=$(grep -l "^pub extern \"C\" fn $call(" crates/face_*/src/*.rt | cut -d/ -f2)
+        public_unsaid "$crate" "$call" "$(echo "${call#jidrofex_}" | tr _ -)"
+    done
+)
+if [ -n "$public_wrong" ]; then
+    fail "a call whose contract no law holds: $(echo $public_wrong)"
+else
+    pass "the contract of each call is held by its law, and by its field in EachCallOne"
 fi
