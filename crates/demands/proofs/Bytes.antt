@@ -146,7 +146,7 @@ module _ (P : AcceptedPlan) where
       (meets-from cs (leftOf (report kind) s) (reached-left P s R (report kind)))
 
   -- and so it sees what happens on the bench
-  sees-from : (cs : List Called) (s : State) → Reached P s → robotActs cs s ≡ acts (turnsOf cs s)
+  pub sees-from : (cs : List Called) (s : State) → Reached P s → robotActs cs s ≡ acts (turnsOf cs s)
   unfolding robotActs acts turnsOf a
   sees-from [] s R = refl
   sees-from (asks buf ∷ cs) s R =

@@ -5,6 +5,7 @@ pub mod Two
 pub mod Three
 pub mod Bytes
 pub mod Words
+pub mod Onward
 pub mod Refusals
 pub mod Ends
 pub mod Longest

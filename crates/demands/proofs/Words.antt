@@ -81,17 +81,17 @@ module _ (P : AcceptedPlan) where
   C = campaignOf P
 
   -- the words that are left are those of the state that is left
-  after-read : (cs : List Called) (ws : List ℕ) (s : State) → Read P ws s → Read P (wordsAfter cs ws) (leftAfter cs s)
+  pub after-read : (cs : List Called) (ws : List ℕ) (s : State) → Read P ws s → Read P (wordsAfter cs ws) (leftAfter cs s)
   unfolding wordsAfter leftAfter
   after-read [] ws s r = r
   after-read (c ∷ cs) ws s r = after-read cs (calledWords (callOf c) ws) (leftOf (callOf c) s) (read-left P ws s r (callOf c))
 
   -- and say its moment
-  moment-read : (ws : List ℕ) (s : State) → Read P ws s → momentIn ws ≡ momentOf s
+  pub moment-read : (ws : List ℕ) (s : State) → Read P ws s → momentIn ws ≡ momentOf s
   moment-read ws s r = ap momentOf (at-state ws s (r .is))
 
   -- the turns are those of the calls behind
-  turns-read : (cs : List Called) (ws : List ℕ) (s : State) → Read P ws s → turnsIn cs ws ≡ turnsOf cs s
+  pub turns-read : (cs : List Called) (ws : List ℕ) (s : State) → Read P ws s → turnsIn cs ws ≡ turnsOf cs s
   unfolding turnsIn turnsOf
   turns-read [] ws s r = refl
   turns-read (c ∷ cs) ws s r =
@@ -103,7 +103,7 @@ module _ (P : AcceptedPlan) where
       ∙ ap (made (answerOf x s) (momentOf (leftOf x s))) (turns-read cs (calledWords x ws) (leftOf x s) on)
 
   -- and the robot sees the same
-  robot-read : (cs : List Called) (ws : List ℕ) (s : State) → Read P ws s → robotIn cs ws ≡ robotActs cs s
+  pub robot-read : (cs : List Called) (ws : List ℕ) (s : State) → Read P ws s → robotIn cs ws ≡ robotActs cs s
   unfolding robotIn robotActs
   robot-read [] ws s r = refl
   robot-read (asks buf ∷ cs) ws s r =
