@@ -1,12 +1,12 @@
 // The paper's example: its orders are printed, read back line by line and carried out on a panel; at each mark the panel has the pattern of the line's rank.
 use crate::says;
-use campaign::Campaign;
 use line_reader::answers::ReadLine;
 use line_reader::order_lines::read_line;
 use panel::lines::carry;
 use patterns::ranking::rank;
 use printing::Filled;
 use printing::fill;
+use printing::rehearse;
 use words::Line;
 use words::Numbered;
 use words::Outcome;
@@ -85,10 +85,10 @@ fn read_all(text: &[u8], panel: &mut [u8]) {
 }
 
 pub fn printed_and_read() {
-    let begun = Campaign::begin(b"ports=4\nlegs=2\nstart=0\nrun=2\nstart=8\nrun=-1\n");
-    let campaign = begun.campaign;
+    let rehearsed = rehearse(b"ports=4\nlegs=2\nstart=0\nrun=2\nstart=8\nrun=-1\n");
+    let rehearsal = rehearsed.rehearsal;
     let mut buf = io::buffer();
-    let printed = fill(campaign, &mut buf);
+    let printed = fill(rehearsal, &mut buf);
     let filled = printed.filled;
     match filled {
         Filled::Ended(n) => {

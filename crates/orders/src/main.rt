@@ -1,24 +1,26 @@
 // The order printer: judges the first 1,024 bytes of standard input as a plan, takes every mark as run and prints every order; for a refusal only its number
 // and its place. Where something cannot be read or written it stops, and says so in one line on standard error.
-use campaign::Campaign;
 use line_refusal::refusal_text;
 use printing::Filled;
+use printing::Rehearsal;
 use printing::fill;
+use printing::rehearse;
 use words::Outcome;
 use words::Refusal;
 ghost use mathlib.Core.Path.{_≡_};
 ghost use mathlib.Core.Bool.{true};
 ghost use Prim.Native.Nat.{_<_};
 ghost use Rattle.io.specs.Counts.{Counts};
+ghost use Rattle.printing.specs.Rehearsals.{stateOf};
 ghost use Rattle.printing.specs.Progress.{toGo};
-ghost use Rattle.printing.proofs.Progress.{Running};
+ghost use Rattle.printing.proofs.StandsFor.{Rehearsing};
 
 // How many bytes of standard input are judged as a plan. The longest plan has fewer.
 const JUDGED: usize = 1024;
 
-// A campaign after one buffer of its lines, and whether more are to come.
+// A rehearsal after one buffer of its lines, and whether more are to come.
 struct Went {
-    campaign: Campaign,
+    rehearsal: Rehearsal,
     more: bool,
 }
 
@@ -32,47 +34,47 @@ fn written(bytes: &[u8]) -> bool {
 }
 
 // One buffer of lines.
-fn print_some(c: Campaign) -> Went
-    requires { ⌜ Running (c .state) ⌝ }
-    ensures runs { λ r. ⌜ Running (r .campaign .state) ⌝ }
-    ensures less { λ r. ⌜ (r .more ≡ true → toGo (r .campaign .state) < toGo (c .state)) ⌝ }
+fn print_some(r: Rehearsal) -> Went
+    requires { ⌜ Rehearsing (stateOf r) ⌝ }
+    ensures runs { λ w. ⌜ Rehearsing (stateOf (w .rehearsal)) ⌝ }
+    ensures less { λ w. ⌜ (w .more ≡ true → toGo (stateOf (w .rehearsal)) < toGo (stateOf r)) ⌝ }
 {
     let mut buf = io::large_buffer();
-    let printed = fill(c, &mut buf);
-    let next = printed.campaign;
+    let printed = fill(r, &mut buf);
+    let next = printed.rehearsal;
     let filled = printed.filled;
     match filled {
         Filled::Lines(n) => {
             let more = written(&buf[..n]);
             Went {
-                campaign: next,
+                rehearsal: next,
                 more: more,
             }
         }
         Filled::Ended(n) => {
             written(&buf[..n]);
             Went {
-                campaign: next,
+                rehearsal: next,
                 more: false,
             }
         }
         Filled::Refused(_) => Went {
-            campaign: next,
+            rehearsal: next,
             more: false,
         },
     }
 }
 
 // Every order, buffer by buffer: each leaves less to go.
-fn print_all(c: Campaign)
-    requires { ⌜ Running (c .state) ⌝ }
+fn print_all(r: Rehearsal)
+    requires { ⌜ Rehearsing (stateOf r) ⌝ }
 {
-    let mut campaign = c;
+    let mut rehearsal = r;
     let mut more = true;
     while more {
-        let went = print_some(campaign);
-        let next = went.campaign;
-        campaign = next;
+        let went = print_some(rehearsal);
+        let next = went.rehearsal;
+        rehearsal = next;
         more = went.more;
     }
 }
@@ -87,11 +89,11 @@ fn print_refusal(f: Refusal) {
 
 // A text judged, and its orders or its refusal printed.
 fn print_plan(text: &[u8]) {
-    let begun = Campaign::begin(text);
-    let campaign = begun.campaign;
-    let judged = begun.judged;
+    let rehearsed = rehearse(text);
+    let rehearsal = rehearsed.rehearsal;
+    let judged = rehearsed.judged;
     match judged {
-        Outcome::Accepted => print_all(campaign),
+        Outcome::Accepted => print_all(rehearsal),
         Outcome::Refused(f) => print_refusal(f),
     }
 }

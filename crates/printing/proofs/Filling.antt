@@ -15,9 +15,12 @@ use Rattle.campaign_state.specs.declared.State.{State}
 use Rattle.campaign.specs.Calls.{answerOf, bytesOf, over}
 use Rattle.campaign.proofs.Tells.{within-room}
 use Rattle.printing.specs.Printing.{sequel, more, Printout, inFront, onward, linesIn}
-use Rattle.printing.specs.Answers.{sequelTold, filledTold, stopTold, fillOf, fillBytes, GivenIs, PrintedIs}
+use Rattle.printing.specs.Rehearsals.{stateOf}
+use Rattle.printing.specs.Answers.{sequelTold, filledTold, stopTold, fillOf, fillBytes, GivenIs, LinedIs, PrintedIs}
 use Rattle.printing.specs.declared.Given.{Given}
+use Rattle.printing.specs.declared.Lined.{Lined}
 use Rattle.printing.specs.declared.Printed.{Printed}
+use Rattle.printing.specs.declared.Rehearsal.{Rehearsal}
 use Rattle.printing.proofs.Lines.{some-byte, goes-on, stops, text-fits, told-within}
 use Rattle.printing.proofs.Buffer.{put, put-front, put-rest, put-length, rest-first, put-over, front-length}
 
@@ -111,8 +114,8 @@ module _ (s₀ : State) (b₀ : List ℕ) (s : State) (b : List ℕ) (at : ℕ) 
       omega (arith, long, G .0 .place, filling-less s₀ b₀ s b at F (on-so e))
 
   -- none follows: that is all that was printed
-  pub line-last : (r : Printed) (t : Told Bool) → r .campaign ≡ g .campaign → t ≡ told → filledTold (r .filled) ≡ stopTold (g .at) t → more t ≡ false
-      → PrintedIs (length b₀) s₀ r × (b' ≡ fillBytes s₀ b₀)
+  pub line-last : (r : Lined) (t : Told Bool) → r .campaign ≡ g .campaign → t ≡ told → filledTold (r .filled) ≡ stopTold (g .at) t → more t ≡ false
+      → LinedIs (length b₀) s₀ r × (b' ≡ fillBytes s₀ b₀)
   line-last r t c e f n =
       let a = answerOf (request (length b - at)) s in
       let none : more (sequel a) ≡ false = ap more (sym (e ∙ G .0 .told)) ∙ n in (
@@ -130,9 +133,10 @@ module _ (s₀ : State) (b₀ : List ℕ) (s : State) (b : List ℕ) (at : ℕ) 
 -- ---- how many bytes are told
 
 -- no more than the buffer has
-pub bytes-within : (s : State) (b b' : List ℕ) (r : Printed) (n : ℕ) (e : Bool) → PrintedIs (length b) s r × (b' ≡ fillBytes s b)
-    → filledTold (r .filled) ≡ accepted (n, e) → n ≤ length b'
-bytes-within s b b' r n e P h =
+pub bytes-within : (r : Rehearsal) (b b' : List ℕ) (p : Printed) (n : ℕ) (e : Bool) → PrintedIs (length b) r p × (b' ≡ fillBytes (stateOf r) b)
+    → filledTold (p .filled) ≡ accepted (n, e) → n ≤ length b'
+bytes-within r b b' p n e P h =
+    let s = stateOf r in
     let t = linesIn (length b) s .text in
     omega (
       arith,

@@ -1,8 +1,11 @@
+pub mod Ran
 pub mod Lines
 pub mod Buffer
 pub mod Parts
 pub mod Filling
 pub mod Progress
 pub mod Whole
+pub mod Refused
+pub mod StandsFor
 pub mod Only
 pub mod Contracts

@@ -27,9 +27,7 @@ use Rattle.campaign_reached.proofs.Begun.{lawful, accepts}
 use Rattle.campaign_reached.proofs.Kept.{left-setting, answer-on, left-on}
 use Rattle.campaign_reached.proofs.Reached.{Reached, reached-first, does-there, reached-left}
 use Rattle.printing.specs.Printing.{asRun, sequel, more, Printout, onward, linesFrom, linesIn}
-use Rattle.printing.specs.Answers.{filledTold, stopTold, fillOf, PrintedIs}
-use Rattle.printing.specs.declared.Filled.the-variants.{Lines}
-use Rattle.printing.specs.declared.Printed.{Printed}
+use Rattle.printing.specs.Answers.{stopTold, fillOf}
 use Rattle.printing.specs.Progress.{toGo}
 use Rattle.printing.proofs.Lines.{lines-on, lines-off, goes-on, stops, ends as finishes}
 
@@ -95,7 +93,7 @@ none-ran (refusal k) h s = refl
 
 module _ (s : State) (R : Running s) (room : ℕ) where
   -- after a mark, the report that it ran is taken
-  mark-taken : (k r : ℕ) → answerOf (request room) s ≡ mark k r → answerOf (report 0) (leftOf (request room) s) ≡ taken
+  pub mark-taken : (k r : ℕ) → answerOf (request room) s ≡ mark k r → answerOf (report 0) (leftOf (request room) s) ≡ taken
   unfolding running-left model.after
   mark-taken k r e =
       let c : Call = request room in
@@ -172,12 +170,3 @@ module _ (room : ℕ) (s : State) (R : Running s) where
       let rest = lines-run (suc (room - width a)) (room - width a) (onward room s) (on .0) in
       subst (λ (x : Printout). toGo (x .left) < toGo s) (sym (goes-on room s e)) (omega (arith, rest .1, on .1)))
       (λ e. absurd (not-more a e n (ap (λ (x : Printout). stopTold (length (x .text)) (sequel (x .stop))) (sym (stops room s e)) ∙ h)))
-
--- ---- the same of what was printed
-
-module _ (room : ℕ) (s : State) (R : Running s) (r : Printed) (P : PrintedIs room s r) where
-  pub printed-run : Running (r .campaign .state)
-  printed-run = subst Running (sym (P .state)) (filled-run room s R)
-
-  pub printed-less : (n : ℕ) → r .filled ≡ Lines n → toGo (r .campaign .state) < toGo s
-  printed-less n e = subst (λ x. toGo x < toGo s) (sym (P .state)) (filled-less room s R n (sym (P .told) ∙ ap filledTold e))

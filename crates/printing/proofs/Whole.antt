@@ -95,7 +95,7 @@ more-follow (accepted b) e = ap accepted e
 more-follow (refused k p) e = absurd (true≢false (sym e))
 
 -- a refusal writes nothing and leaves the state
-refused-still : (room : ℕ) (s : State) (k : ℕ) → answerOf (request room) s ≡ refusal k → (answerText (answerOf (request room) s) ≡ []) × (onward room s ≡ s)
+pub refused-still : (room : ℕ) (s : State) (k : ℕ) → answerOf (request room) s ≡ refusal k → (answerText (answerOf (request room) s) ≡ []) × (onward room s ≡ s)
 unfolding leftOf
 refused-still room s k e =
     (ap answerText e, ap (λ x. asRun x (after (request room) x s)) e ∙ sym (refusal-leaves (request room) k s))

@@ -5,16 +5,21 @@ use mathlib.Core.Path.{_≡_}
 use mathlib.Core.Bool.{Bool, true, false, not}
 use mathlib.Core.List.{List}
 use lib.ListN.{length}
-use Rattle.words.specs.Told.{Told, accepted, refused}
-use Rattle.words.specs.Meaning.{refusalOf}
+use Rattle.words.specs.Told.{Told, accepted, refused, then}
+use Rattle.words.specs.Meaning.{refusalOf, outcomeTold}
 use Rattle.promise.specs.Campaign.{request}
 use Rattle.campaign_state.specs.State.{width}
 use Rattle.campaign_state.specs.declared.State.{State}
-use Rattle.campaign.specs.Calls.{answerOf, over}
+use Rattle.plans.specs.Calls.{readPlanOf}
+use Rattle.campaign.specs.Calls.{answerOf, over, begunOf}
+use Rattle.printing.specs.Rehearsals.{rehearsalOf, stateOf}
 use Rattle.printing.specs.Printing.{sequel, onward, linesIn}
 use Rattle.printing.specs.declared.Filled.{Filled}
 use Rattle.printing.specs.declared.Filled.the-variants.{Lines, Ended as Filled-Ended, Refused as Filled-Refused}
 use Rattle.printing.specs.declared.Printed.{Printed}
+use Rattle.printing.specs.declared.Rehearsal.{Rehearsal}
+use Rattle.printing.specs.declared.Rehearsed.{Rehearsed}
+use Rattle.printing.specs.declared.Lined.{Lined}
 use Rattle.printing.specs.declared.Sequel.{Sequel}
 use Rattle.printing.specs.declared.Sequel.the-variants.{More, Ended as Sequel-Ended, Refused as Sequel-Refused}
 use Rattle.printing.specs.declared.Given.{Given}
@@ -43,8 +48,18 @@ fillOf room s = stopTold (length (linesIn room s .text)) (sequel (linesIn room s
 abbrev pub fillBytes : State → List ℕ → List ℕ
 fillBytes s buf = over (linesIn (length buf) s .text) buf
 
--- r is what was printed into so much room from s
-pub record PrintedIs (room : ℕ) (s : State) (r : Printed) : Type 0 where
+-- p is what was printed into so much room from the rehearsal r
+pub record PrintedIs (room : ℕ) (r : Rehearsal) (p : Printed) : Type 0 where
+  pub told : filledTold (p .filled) ≡ fillOf room (stateOf r)
+  pub rehearsal : p .rehearsal ≡ rehearsalOf (linesIn room (stateOf r) .left)
+
+-- r is what a text is rehearsed as: how it is judged, and the rehearsal at its first moment, all zeros if it is refused
+pub record RehearsedIs (t : List ℕ) (r : Rehearsed) : Type 0 where
+  pub judged : outcomeTold (r .judged) ≡ then (readPlanOf t) (λ p. accepted tt)
+  pub rehearsal : r .rehearsal ≡ rehearsalOf (begunOf t)
+
+-- r is what was printed into so much room from the state s
+pub record LinedIs (room : ℕ) (s : State) (r : Lined) : Type 0 where
   pub told : filledTold (r .filled) ≡ fillOf room s
   pub state : r .campaign .state ≡ linesIn room s .left
 

@@ -1,3 +1,4 @@
+pub mod Rehearsals
 pub mod Printing
 pub mod Answers
 pub mod Progress

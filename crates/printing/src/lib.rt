@@ -1,15 +1,40 @@
-// Order lines in bulk: as many whole lines as fit a lent buffer, every mark taken as run.
+// Order lines in bulk: as many whole lines as fit a lent buffer, every mark taken as run. A rehearsal of a plan, not a campaign: what goes on from buffer to
+// buffer is no state of a campaign and carries no count.
+mod rehearsals;
+
+use crate::rehearsals::rehearsal_of;
+use crate::rehearsals::state_of;
 use campaign::Answer;
 use campaign::Campaign;
 use campaign::RAN;
+use plan_rules::Plan;
+use words::Outcome;
 use words::Refusal;
+use words::limits::LONGEST;
 ghost use mathlib.Core.Path.{_≡_};
 ghost use mathlib.Core.List.{_++_};
 ghost use Prim.Native.Nat.{_-_, _≤_};
 ghost use lib.ListN.{length, take, drop};
 ghost use Rattle.words.specs.Meaning.{refusalOf};
 ghost use Rattle.campaign.specs.Calls.{bytesOf};
-ghost use Rattle.printing.specs.Answers.{filledTold, stopTold, GivenIs, PrintedIs, fillBytes};
+ghost use Rattle.printing.specs.Rehearsals.{stateOf};
+ghost use Rattle.printing.specs.Answers.{filledTold, stopTold, GivenIs, LinedIs, PrintedIs, RehearsedIs, fillBytes};
+
+// A rehearsal of a plan, every mark taken as run: the plan; the panel, 0 beyond the ports; the leg and step of the next mark, counted from 0; whether the end
+// is shown. It has no counts: those are a campaign's.
+pub struct Rehearsal {
+    pub plan: Plan,
+    pub panel: [u8; LONGEST],
+    pub leg: u8,
+    pub step: u64,
+    pub ended: bool,
+}
+
+// A text judged as a plan, and the rehearsal of it: at its first moment, or all zeros if it was refused.
+pub struct Rehearsed {
+    pub judged: Outcome,
+    pub rehearsal: Rehearsal,
+}
 
 // What was printed: so many bytes with more to come, so many with the end's line last, or not even one line.
 pub enum Filled {
@@ -18,10 +43,16 @@ pub enum Filled {
     Refused(Refusal),
 }
 
-// What was printed, and the campaign that it leaves.
+// What was printed, and the rehearsal that it leaves.
 pub struct Printed {
-    pub campaign: Campaign,
+    pub rehearsal: Rehearsal,
     pub filled: Filled,
+}
+
+// What was printed, and the campaign that it leaves.
+struct Lined {
+    campaign: Campaign,
+    filled: Filled,
 }
 
 // What follows a line: more lines, none after the end's, or a refusal in its place.
@@ -87,8 +118,8 @@ fn stopped(n: usize, f: Refusal) -> Filled
 }
 
 // As many whole lines as fit the buffer, from the front; every mark is reported as run.
-pub fn fill(c: Campaign, buf: &mut [u8]) -> Printed
-    ensures told { λ r. ⌜ PrintedIs (length (now (buf .entry))) (c .state) r ⌝ }
+fn fill_lines(c: Campaign, buf: &mut [u8]) -> Lined
+    ensures told { λ r. ⌜ LinedIs (length (now (buf .entry))) (c .state) r ⌝ }
     ensures bytes { λ _. ⌜ now (buf .exit) ≡ fillBytes (c .state) (now (buf .entry)) ⌝ }
 {
     let mut campaign = c;
@@ -104,17 +135,44 @@ pub fn fill(c: Campaign, buf: &mut [u8]) -> Printed
                 at = after;
             }
             Sequel::Ended => {
-                return Printed {
+                return Lined {
                     campaign: next,
                     filled: Filled::Ended(after),
                 };
             }
             Sequel::Refused(f) => {
-                return Printed {
+                return Lined {
                     campaign: next,
                     filled: stopped(after, f),
                 };
             }
         }
+    }
+}
+
+// The rehearsal of the plan that a text is.
+pub fn rehearse(text: &[u8]) -> Rehearsed
+    ensures { λ r. ⌜ RehearsedIs (now (text .entry)) r ⌝ }
+{
+    let begun = Campaign::begin(text);
+    let campaign = begun.campaign;
+    let judged = begun.judged;
+    Rehearsed {
+        judged: judged,
+        rehearsal: rehearsal_of(campaign.state),
+    }
+}
+
+// As many whole lines as fit the buffer, from the front; every mark is taken as run.
+pub fn fill(r: Rehearsal, buf: &mut [u8]) -> Printed
+    ensures told { λ p. ⌜ PrintedIs (length (now (buf .entry))) r p ⌝ }
+    ensures bytes { λ _. ⌜ now (buf .exit) ≡ fillBytes (stateOf r) (now (buf .entry)) ⌝ }
+{
+    let lined = fill_lines(Campaign { state: state_of(r) }, buf);
+    let campaign = lined.campaign;
+    let filled = lined.filled;
+    Printed {
+        rehearsal: rehearsal_of(campaign.state),
+        filled: filled,
     }
 }

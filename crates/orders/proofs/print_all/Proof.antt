@@ -1,11 +1,12 @@
--- `orders::print_all`: each buffer leaves a campaign that runs on, with less to go.
+-- `orders::print_all`: each buffer leaves a rehearsal that runs on, with less to go.
 -- Assumes nothing.
 use mathlib.Core.Path.{_≡_, refl, sym}
 use mathlib.Core.Bool.{Bool, true, false, cond, true≢false}
 use Prim.Native.Nat.{ℕ, suc, _<_}
 use native.Mathlib.Omega.{arith}
+use Rattle.printing.specs.Rehearsals.{stateOf}
 use Rattle.printing.specs.Progress.{toGo}
-use Rattle.printing.proofs.Progress.{Running}
+use Rattle.printing.proofs.StandsFor.{Rehearsing}
 use Rattle.orders.proofs.print_all.Statement.{statement}
 use Rattle.orders.proofs.print_all.Tie as tie
 
@@ -16,10 +17,10 @@ went-less old new true e false h = omega arith
 went-less old new false e m h = absurd (true≢false (sym e))
 
 abbrev Inv-loop : tie.InvT-loop
-Inv-loop campaign₀ more₀ campaign more = Running (campaign .state)
+Inv-loop rehearsal₀ more₀ rehearsal more = Rehearsing (stateOf rehearsal)
 
 abbrev μ-loop : tie.MeasureT-loop
-μ-loop campaign₀ more₀ campaign more = cond more (suc (toGo (campaign .state))) 0
+μ-loop rehearsal₀ more₀ rehearsal more = cond more (suc (toGo (stateOf rehearsal))) 0
 
 loop-less : tie.Need-loop-less Inv-loop μ-loop
 loop-less c = went-less _ _ _ (c .before .before .loop-test .taken) _ (c .before .print-some .ensures .1)

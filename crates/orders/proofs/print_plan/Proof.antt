@@ -1,16 +1,18 @@
--- `orders::print_plan`: the campaign on an accepted plan runs on from its first state.
+-- `orders::print_plan`: the rehearsal of an accepted plan runs on from its first moment.
 -- Assumes nothing.
 use mathlib.Core.Path.{sym, ap, subst, _∙_}
 use borrow.Author.Needs.{needs}
 use Rattle.words.specs.Meaning.{outcomeTold}
-use Rattle.printing.proofs.Progress.{Running, running-begun}
+use Rattle.printing.specs.Rehearsals.{stateOf}
+use Rattle.printing.proofs.StandsFor.{Rehearsing, begun-for, rehearsing-begun}
 use Rattle.orders.proofs.print_plan.Statement.{statement}
 use Rattle.orders.proofs.print_plan.Tie as tie
 
 print-all-requires : tie.Need-print-all-requires
 print-all-requires c κs =
     let b = c .before .before .before in
-    subst Running (sym (b .begin .ensures .state)) (running-begun _ (ap outcomeTold (sym (c .enum-told .given .1)) ∙ b .begin .ensures .judged))
+    subst Rehearsing (sym (ap stateOf (b .rehearse .ensures .rehearsal) ∙ begun-for _))
+    (rehearsing-begun _ (ap outcomeTold (sym (c .enum-told .given .1)) ∙ b .rehearse .ensures .judged))
 
 pub print-plan-spec : {M : Type 1} → statement M
 print-plan-spec =

@@ -1,4 +1,4 @@
--- `orders::print_some`: what is told to be printed lies within the buffer, and the campaign runs on, with less to go where more is to come.
+-- `orders::print_some`: what is told to be printed lies within the buffer, and the rehearsal runs on, with less to go where more is to come.
 -- Assumes nothing.
 use mathlib.Core.Path.{sym, ap}
 use mathlib.Core.Bool.{true≢false}
@@ -6,7 +6,7 @@ use lib.Seq.{length-take-le}
 use borrow.Author.Needs.{needs}
 use Rattle.printing.specs.Answers.{filledTold}
 use Rattle.printing.proofs.Filling.{bytes-within}
-use Rattle.printing.proofs.Progress.{printed-run, printed-less}
+use Rattle.printing.proofs.StandsFor.{printed-run, printed-less}
 use Rattle.orders.proofs.print_some.Statement.{statement}
 use Rattle.orders.proofs.print_some.Tie as tie
 
