@@ -6,7 +6,7 @@
  *     accepted   the values that the call names below, then zeros
  *     refused    the place (a jack or a line of a plan; 0 where none is said), then zeros
  *
- * A refused call changes nothing else. The one exception is said at its call: jidrofex_begin on a refused text.
+ * A refused call changes nothing else. The one exception is said at its calls: jidrofex_begin and jidrofex_rehearse on a refused text.
  *
  * What no contract can say, and the caller sees to:
  *   - Each pointer is good for the length beside it, an array for its words, and is aligned for its type. With length 0 a pointer may be null;
@@ -72,6 +72,14 @@ enum {
     JIDROFEX_STATE_WORDS = 61,
 };
 
+/* A rehearsal of a plan: lines in bulk, every mark taken as run. It is no state of a campaign and has no counts: request and report refuse its words, and
+ * jidrofex_orders those of a state. So many words: the fields up to the step stand where a state has them, from JIDROFEX_STATE_PORTS to JIDROFEX_STATE_STEP, and
+ * the end after them. A slice of another length, or a word that its field cannot hold, is no rehearsal (15), and nothing is written. */
+enum {
+    JIDROFEX_REHEARSAL_ENDED = 56, /* 1 once the end is shown, else 0 */
+    JIDROFEX_REHEARSAL_WORDS = 57,
+};
+
 /* ---- patterns: n bytes, the port at each jack from jack 1 on */
 
 /* Whether it is a pattern; whether it is a panel, on which a jack may hold its own port. Gives nothing. */
@@ -123,9 +131,15 @@ uint8_t jidrofex_request(uint64_t *state, size_t words, uint8_t *buffer, size_t 
 /* What the bench says of the standing mark. Gives nothing. */
 uint8_t jidrofex_report(uint64_t *state, size_t words, uint8_t kind, uint64_t answer[5]);
 
+/* ---- a rehearsal: every line of a plan, with no robot and no report */
+
+/* The rehearsal of the plan that the text is, at its first moment. A refused text leaves it all zeros; words of the wrong number are refused (15) before the
+ * text is looked at. Gives nothing. */
+uint8_t jidrofex_rehearse(const uint8_t *text, size_t bytes, uint64_t *rehearsal, size_t words, uint64_t answer[5]);
+
 /* As many whole lines as fit the buffer, every mark taken as run; the end's line is the last. Gives how many bytes they take, and 1 if the end is among them.
- * Refused if not even one line is written: 15, 13, 2. */
-uint8_t jidrofex_orders(uint64_t *state, size_t words, uint8_t *buffer, size_t bytes, uint64_t answer[5]);
+ * Refused if not even one line is written: 15, 2. */
+uint8_t jidrofex_orders(uint64_t *rehearsal, size_t words, uint8_t *buffer, size_t bytes, uint64_t answer[5]);
 
 #ifdef __cplusplus
 }

@@ -1,7 +1,10 @@
-// The calls for C on a campaign whose state stands in the words of the caller (include/jidrofex.h).
+// The calls for C on a campaign whose state stands in the words of the caller, and on a rehearsal (include/jidrofex.h).
 use campaign::Answer;
 use campaign::Campaign;
+use face_state::places::REHEARSAL_WORDS;
 use face_state::places::STATE_WORDS;
+use face_state::rehearsals::rehearsal_in;
+use face_state::rehearsals::rehearsal_out;
 use face_state::state_in;
 use face_state::state_out;
 use face_values::answers::ANSWER_WORDS;
@@ -11,6 +14,7 @@ use face_values::answers::refuse;
 use face_values::lines::give_line;
 use printing::Filled;
 use printing::fill;
+use printing::rehearse;
 use words::Line;
 use words::Reason;
 use words::refusals::nowhere;
@@ -22,11 +26,11 @@ ghost use Rattle.campaign.specs.Answers.{answerTold};
 ghost use Rattle.printing.specs.Answers.{filledTold};
 ghost use Rattle.face_values.specs.Answers.{five, numberTold, wordsTold, nothing};
 ghost use Rattle.face_laws.specs.Values.{orderAndBytes, orderThen, bytesAndEnd};
-ghost use Rattle.face_laws.specs.Calls.{calledTold, calledWords, requestBytes, ordersTold, ordersWords, ordersBytes, beginTold, beginWords};
+ghost use Rattle.face_laws.specs.Calls.{calledTold, calledWords, requestBytes, ordersTold, ordersWords, ordersBytes, beginTold, beginWords, rehearseTold, rehearseWords};
 
 // ---- answers
 
-// Words that are no state: 15, at no place.
+// Words that are no state, or no rehearsal: 15, at no place.
 fn unfit(answer: &mut [u64; ANSWER_WORDS]) -> u8
     ensures number { λ r. ⌜ r ≡ 15 ⌝ }
     ensures words { λ _. ⌜ now (answer .exit) ≡ five (0 ∷ []) ⌝ }
@@ -131,25 +135,44 @@ pub extern "C" fn jidrofex_report(
     unfit(answer)
 }
 
+// The rehearsal of the plan that the text is.
+#[no_mangle]
+pub extern "C" fn jidrofex_rehearse(
+    text: &[u8],
+    rehearsal: &mut [u64],
+    answer: &mut [u64; ANSWER_WORDS],
+) -> u8
+    ensures number { λ r. ⌜ r ≡ numberTold (rehearseTold (now (text .entry)) (now (rehearsal .entry))) ⌝ }
+    ensures words { λ _. ⌜ now (answer .exit) ≡ wordsTold nothing (rehearseTold (now (text .entry)) (now (rehearsal .entry))) ⌝ }
+    ensures left { λ _. ⌜ now (rehearsal .exit) ≡ rehearseWords (now (text .entry)) (now (rehearsal .entry)) ⌝ }
+{
+    if rehearsal.len() != REHEARSAL_WORDS {
+        return unfit(answer);
+    }
+    let rehearsed = rehearse(text);
+    let first = rehearsed.rehearsal;
+    rehearsal_out(first, rehearsal);
+    let judged = rehearsed.judged;
+    give_outcome(judged, answer)
+}
+
 // As many whole lines as fit the buffer, every mark taken as run.
 #[no_mangle]
 pub extern "C" fn jidrofex_orders(
-    state: &mut [u64],
+    rehearsal: &mut [u64],
     buffer: &mut [u8],
     answer: &mut [u64; ANSWER_WORDS],
 ) -> u8
-    ensures number { λ r. ⌜ r ≡ numberTold (ordersTold (length (now (buffer .entry))) (now (state .entry))) ⌝ }
-    ensures words { λ _. ⌜ now (answer .exit) ≡ wordsTold bytesAndEnd (ordersTold (length (now (buffer .entry))) (now (state .entry))) ⌝ }
-    ensures left { λ _. ⌜ now (state .exit) ≡ ordersWords (length (now (buffer .entry))) (now (state .entry)) ⌝ }
-    ensures bytes { λ _. ⌜ now (buffer .exit) ≡ ordersBytes (now (state .entry)) (now (buffer .entry)) ⌝ }
+    ensures number { λ r. ⌜ r ≡ numberTold (ordersTold (length (now (buffer .entry))) (now (rehearsal .entry))) ⌝ }
+    ensures words { λ _. ⌜ now (answer .exit) ≡ wordsTold bytesAndEnd (ordersTold (length (now (buffer .entry))) (now (rehearsal .entry))) ⌝ }
+    ensures left { λ _. ⌜ now (rehearsal .exit) ≡ ordersWords (length (now (buffer .entry))) (now (rehearsal .entry)) ⌝ }
+    ensures bytes { λ _. ⌜ now (buffer .exit) ≡ ordersBytes (now (rehearsal .entry)) (now (buffer .entry)) ⌝ }
 {
-    let held = state_in(state);
+    let held = rehearsal_in(rehearsal);
     if held.known {
-        let s = held.state;
-        let campaign = Campaign { state: s };
-        let printed = fill(campaign, buffer);
-        let left = printed.campaign;
-        state_out(left.state, state);
+        let printed = fill(held.rehearsal, buffer);
+        let left = printed.rehearsal;
+        rehearsal_out(left, rehearsal);
         let filled = printed.filled;
         return give_filled(filled, answer);
     }

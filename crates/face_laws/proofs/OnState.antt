@@ -1,4 +1,4 @@
--- Calls on a state that stands in words: what they tell and leave where the words are a state (`on-told`, `on-left`, `on-bytes`) and where they are none
+-- Calls on a state or a rehearsal that stands in words: what they tell and leave where the words are one (`on-told`, `on-left`, `on-bytes`) and where they are none
 -- (`off-told`, `off-left`, and with a buffer `off-buffer`); what the answers of a campaign give (`order-bytes`, `heard`); and the beginning (`begin-right`, `begin-wrong`).
 -- Assumes nothing.
 use mathlib.Core.Path.{_≡_, refl, sym, ap, _∙_}
@@ -18,55 +18,57 @@ use Rattle.promise.specs.Campaign as model
 use Rattle.promise.specs.Campaign.{movement, mark, theEnd, taken, refusal}
 use Rattle.plans.specs.Calls.{readPlanOf}
 use Rattle.campaign_state.specs.State.{width}
-use Rattle.campaign_state.specs.declared.State.{State}
 use Rattle.campaign.specs.Answers.{heardTold}
-use Rattle.campaign.specs.Calls.{toldOf, begunOf}
+use Rattle.campaign.specs.Calls.{toldOf}
 use Rattle.face_values.specs.Answers.{five, wordsTold, nothing}
 use Rattle.face_values.specs.Lines.{lineWords}
 use Rattle.face_values.proofs.Tells.{Tells}
-use Rattle.face_state.specs.States.{stateCount, stateWords, stateIn}
-use Rattle.face_state.proofs.Back.{words-back}
 use Rattle.face_laws.specs.Values.{orderAndBytes, orderThen}
-use Rattle.face_laws.specs.Calls.{onState, leftIn, stateLeft, bytesIn, stateBytes, beginTold, beginWords}
+use Rattle.face_laws.specs.Calls.{Crossing, onWords, leftIn, wordsLeft, bytesIn, bytesLeft, judgedFor, begunWith}
 
--- ---- words that are a state
+-- ---- words that are one
 
-module _ {A : Type 0} (f : State → Told A) (ws : List ℕ) {s : State} (e : some s ≡ stateIn ws) where
-  -- what is told of the state
-  pub on-told : f s ≡ onState f ws
-  unfolding onState
+-- the words of what words are, are these words
+abbrev pub HadBack : {S : Type 0} → Crossing S → Type 0
+HadBack {S} W = (ws : List ℕ) (s : S) → W .reads ws ≡ some s → W .writes s ≡ ws
+
+module _ {S A : Type 0} (W : Crossing S) (f : S → Told A) (ws : List ℕ) {s : S} (e : some s ≡ W .reads ws) where
+  -- what is told of it
+  pub on-told : f s ≡ onWords W f ws
+  unfolding onWords
   on-told = rw (← e) refl
 
-  -- the words of the state that is left are left: a refused call leaves the state, whose words are those that were there
-  pub on-left : (g : State → State) {left : State} → ((k : ℕ) (p : Spot) → f s ≡ refused k p → g s ≡ s) → left ≡ g s → stateWords left ≡ stateLeft f g ws
-  unfolding stateLeft
-  on-left g stays l = ap stateWords l ∙ by (f s) refl ∙ ap (λ x. leaves x (leftIn g (stateIn ws) ws) ws) on-told
+  -- the words of what is left are left: a refused call leaves it, and its words are those that were there
+  pub on-left : HadBack W → (g : S → S) {left : S} → ((k : ℕ) (p : Spot) → f s ≡ refused k p → g s ≡ s) → left ≡ g s → W .writes left ≡ wordsLeft W f g ws
+  unfolding wordsLeft
+  on-left back g stays l = ap (W .writes) l ∙ by (f s) refl ∙ ap (λ x. leaves x (leftIn W g (W .reads ws) ws) ws) on-told
     where
-      by : (t : Told A) → f s ≡ t → stateWords (g s) ≡ leaves t (leftIn g (stateIn ws) ws) ws
-      by (accepted a) h = ap (λ o. leftIn g o ws) e
-      by (refused k p) h = ap stateWords (stays k p h) ∙ words-back ws s (sym e)
+      by : (t : Told A) → f s ≡ t → W .writes (g s) ≡ leaves t (leftIn W g (W .reads ws) ws) ws
+      by (accepted a) h = ap (λ o. leftIn W g o ws) e
+      by (refused k p) h = ap (W .writes) (stays k p h) ∙ back ws s (sym e)
 
 -- and the bytes of its buffer
-pub on-bytes : (h : State → List ℕ → List ℕ) (ws : List ℕ) {s : State} → some s ≡ stateIn ws → (buf : List ℕ) → h s buf ≡ stateBytes h ws buf
-unfolding stateBytes
-on-bytes h ws e buf = ap (λ o. bytesIn h o buf) e
+pub on-bytes : {S : Type 0} (W : Crossing S) (h : S → List ℕ → List ℕ) (ws : List ℕ) {s : S} → some s ≡ W .reads ws → (buf : List ℕ)
+    → h s buf ≡ bytesLeft W h ws buf
+unfolding bytesLeft
+on-bytes W h ws e buf = ap (λ o. bytesIn W h o buf) e
 
 -- ---- words that are none
 
-module _ (ws : List ℕ) (e : none ≡ stateIn ws) where
-  pub off-told : {A : Type 0} (f : State → Told A) → refused 15 nowhere ≡ onState f ws
-  unfolding onState
+module _ {S : Type 0} (W : Crossing S) (ws : List ℕ) (e : none ≡ W .reads ws) where
+  pub off-told : {A : Type 0} (f : S → Told A) → refused 15 nowhere ≡ onWords W f ws
+  unfolding onWords
   off-told f = rw (← e) refl
 
-  pub off-left : {A : Type 0} (f : State → Told A) (g : State → State) → ws ≡ stateLeft f g ws
-  unfolding stateLeft
-  off-left f g = ap (λ x. leaves x (leftIn g (stateIn ws) ws) ws) (off-told f)
+  pub off-left : {A : Type 0} (f : S → Told A) (g : S → S) → ws ≡ wordsLeft W f g ws
+  unfolding wordsLeft
+  off-left f g = ap (λ x. leaves x (leftIn W g (W .reads ws) ws) ws) (off-told f)
 
   -- all that such a call tells and leaves
-  pub off-buffer : {A : Type 0} (f : State → Told A) (g : State → State) (h : State → List ℕ → List ℕ) (buf : List ℕ)
-      → (refused 15 nowhere ≡ onState f ws) × ((ws ≡ stateLeft f g ws) × (buf ≡ stateBytes h ws buf))
-  unfolding stateBytes
-  off-buffer f g h buf = (off-told f, (off-left f g, ap (λ o. bytesIn h o buf) e))
+  pub off-buffer : {A : Type 0} (f : S → Told A) (g : S → S) (h : S → List ℕ → List ℕ) (buf : List ℕ)
+      → (refused 15 nowhere ≡ onWords W f ws) × ((ws ≡ wordsLeft W f g ws) × (buf ≡ bytesLeft W h ws buf))
+  unfolding bytesLeft
+  off-buffer f g h buf = (off-told f, (off-left f g, ap (λ o. bytesIn W h o buf) e))
 
 -- ---- the answers of a campaign
 
@@ -93,13 +95,13 @@ heard (Refused f) t = t
 
 -- ---- the beginning
 
-module _ (t ws : List ℕ) where
-  -- a state of the right length
-  pub begin-right : length ws ≡ stateCount → (then (readPlanOf t) (λ p. accepted tt) ≡ beginTold t ws) × (stateWords (begunOf t) ≡ beginWords t ws)
-  unfolding beginTold beginWords
-  begin-right e = let b = eq-eqb (length ws) stateCount e in (rw b refl, rw b refl)
+module _ (many : ℕ) (t first ws : List ℕ) where
+  -- as many words as wanted
+  pub begin-right : length ws ≡ many → (then (readPlanOf t) (λ p. accepted tt) ≡ judgedFor many t ws) × (first ≡ begunWith many first ws)
+  unfolding judgedFor begunWith
+  begin-right e = let b = eq-eqb (length ws) many e in (rw b refl, rw b refl)
 
-  -- and of another
-  pub begin-wrong : (length ws ≡ stateCount → ⊥) → (refused 15 nowhere ≡ beginTold t ws) × (ws ≡ beginWords t ws)
-  unfolding beginTold beginWords
-  begin-wrong f = let b = ne-eqb (length ws) stateCount f in (rw b refl, rw b refl)
+  -- and another number
+  pub begin-wrong : (length ws ≡ many → ⊥) → (refused 15 nowhere ≡ judgedFor many t ws) × (ws ≡ begunWith many first ws)
+  unfolding judgedFor begunWith
+  begin-wrong f = let b = ne-eqb (length ws) many f in (rw b refl, rw b refl)

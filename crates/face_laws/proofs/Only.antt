@@ -18,7 +18,7 @@ use Rattle.face_values.specs.Answers.{nothing, oneNumber}
 use Rattle.face_values.specs.Lines.{moveWords, lineIn}
 use Rattle.face_values.specs.Only.{Only}
 use Rattle.face_laws.specs.Values.{lineAndPlace, orderAndBytes, bytesAndEnd}
-use Rattle.face_laws.specs.Calls.{calledTold, calledWords, requestBytes, ordersTold, ordersWords, ordersBytes, beginTold, beginWords}
+use Rattle.face_laws.specs.Calls.{calledTold, calledWords, requestBytes, ordersTold, ordersWords, ordersBytes, beginTold, beginWords, rehearseTold, rehearseWords}
 
 -- one result meets the clauses of a contract
 only : {A : Type 0} (values : A → List ℕ) (told : Told A) (left : List (List ℕ)) → Only values told left
@@ -80,6 +80,11 @@ only-request ws buf = only _ _ _
 
 pub only-report : (ws : List ℕ) (kind : ℕ) → Only nothing (calledTold (report kind) ws) (calledWords (report kind) ws ∷ [])
 only-report ws kind = only _ _ _
+
+-- ---- a rehearsal
+
+pub only-rehearse : (t ws : List ℕ) → Only nothing (rehearseTold t ws) (rehearseWords t ws ∷ [])
+only-rehearse t ws = only _ _ _
 
 pub only-orders : (ws buf : List ℕ) → Only bytesAndEnd (ordersTold (length buf) ws) (ordersWords (length buf) ws ∷ ordersBytes ws buf ∷ [])
 only-orders ws buf = only _ _ _

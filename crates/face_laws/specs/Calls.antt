@@ -1,4 +1,4 @@
--- What the calls on a state tell and leave where it crosses in words. The other calls tell what the calls that they wrap tell.
+-- What the calls on a state or a rehearsal tell and leave where it crosses in words. The other calls tell what the calls that they wrap tell.
 -- Assumes nothing.
 use Prim.Native.Nat.{ℕ}
 use mathlib.Core.Bool.{Bool, cond}
@@ -13,31 +13,48 @@ use Rattle.plans.specs.Calls.{readPlanOf}
 use Rattle.campaign_state.specs.declared.State.{State}
 use Rattle.campaign.specs.Calls.{answerOf, toldOf, leftOf, bytesOf, begunOf}
 use Rattle.printing.specs.Printing.{linesIn}
+use Rattle.printing.specs.Rehearsals.{rehearsalOf, stateOf}
 use Rattle.printing.specs.Answers.{fillOf, fillBytes}
+use Rattle.printing.specs.declared.Rehearsal.{Rehearsal}
 use Rattle.face_state.specs.States.{stateCount, stateWords, stateIn}
+use Rattle.face_state.specs.Rehearsals.{rehearsalCount, rehearsalWords, rehearsalIn}
 
--- ---- a call on a state in words: f is what it tells of the state, g the state that it leaves, h the bytes of its buffer
+-- ---- what crosses in words
 
--- 15, at no place, unless the words are a state; else what is told of that state
-unfoldable pub onState : {A : Type 0} → (State → Told A) → List ℕ → Told A
-onState f ws = then (need 15 nowhere (stateIn ws)) f
+-- what words are, if they are one, and the words of it
+pub record Crossing (S : Type 0) : Type 0 where
+  pub reads : List ℕ → Option S
+  pub writes : S → List ℕ
 
--- the words of the state that is left
-abbrev pub leftIn : (State → State) → Option State → List ℕ → List ℕ
-leftIn g none ws = ws
-leftIn g (some s) ws = stateWords (g s)
+abbrev pub states : Crossing State
+states = record { reads = stateIn; writes = stateWords }
 
--- the words that are left: those of the state that is left; 'A refused call changes nothing'
-unfoldable pub stateLeft : {A : Type 0} → (State → Told A) → (State → State) → List ℕ → List ℕ
-stateLeft f g ws = leaves (onState f ws) (leftIn g (stateIn ws) ws) ws
+abbrev pub rehearsals : Crossing Rehearsal
+rehearsals = record { reads = rehearsalIn; writes = rehearsalWords }
 
--- the bytes of the buffer that are left
-abbrev pub bytesIn : (State → List ℕ → List ℕ) → Option State → List ℕ → List ℕ
-bytesIn h none buf = buf
-bytesIn h (some s) buf = h s buf
+-- ---- a call on it: f is what it tells of a state or a rehearsal, g what it leaves of it, h the bytes of its buffer
 
-unfoldable pub stateBytes : (State → List ℕ → List ℕ) → List ℕ → List ℕ → List ℕ
-stateBytes h ws buf = bytesIn h (stateIn ws) buf
+module _ {S : Type 0} (W : Crossing S) where
+  -- 15, at no place, unless the words are one; else what is told of it
+  unfoldable pub onWords : {A : Type 0} → (S → Told A) → List ℕ → Told A
+  onWords f ws = then (need 15 nowhere (W .reads ws)) f
+
+  -- the words of what is left
+  abbrev pub leftIn : (S → S) → Option S → List ℕ → List ℕ
+  leftIn g none ws = ws
+  leftIn g (some s) ws = W .writes (g s)
+
+  -- the words that are left: those of what is left; 'A refused call changes nothing'
+  unfoldable pub wordsLeft : {A : Type 0} → (S → Told A) → (S → S) → List ℕ → List ℕ
+  wordsLeft f g ws = leaves (onWords f ws) (leftIn g (W .reads ws) ws) ws
+
+  -- the bytes of the buffer that are left
+  abbrev pub bytesIn : (S → List ℕ → List ℕ) → Option S → List ℕ → List ℕ
+  bytesIn h none buf = buf
+  bytesIn h (some s) buf = h s buf
+
+  unfoldable pub bytesLeft : (S → List ℕ → List ℕ) → List ℕ → List ℕ → List ℕ
+  bytesLeft h ws buf = bytesIn h (W .reads ws) buf
 
 -- ---- requests and reports
 
@@ -45,34 +62,54 @@ abbrev pub toldBy : Call → State → Told model.Answer
 toldBy c s = toldOf (answerOf c s)
 
 abbrev pub calledTold : Call → List ℕ → Told model.Answer
-calledTold c ws = onState (toldBy c) ws
+calledTold c ws = onWords states (toldBy c) ws
 
 abbrev pub calledWords : Call → List ℕ → List ℕ
-calledWords c ws = stateLeft (toldBy c) (leftOf c) ws
+calledWords c ws = wordsLeft states (toldBy c) (leftOf c) ws
 
 abbrev pub requestBytes : List ℕ → List ℕ → List ℕ
-requestBytes ws buf = stateBytes bytesOf ws buf
+requestBytes ws buf = bytesLeft states bytesOf ws buf
 
 -- ---- the orders in bulk
 
-abbrev pub ordersTold : ℕ → List ℕ → Told (ℕ × Bool)
-ordersTold room ws = onState (fillOf room) ws
+abbrev pub printTold : ℕ → Rehearsal → Told (ℕ × Bool)
+printTold room r = fillOf room (stateOf r)
 
-abbrev pub ordersLeft : ℕ → State → State
-ordersLeft room s = linesIn room s .left
+abbrev pub printLeft : ℕ → Rehearsal → Rehearsal
+printLeft room r = rehearsalOf (linesIn room (stateOf r) .left)
+
+abbrev pub printBytes : Rehearsal → List ℕ → List ℕ
+printBytes r buf = fillBytes (stateOf r) buf
+
+abbrev pub ordersTold : ℕ → List ℕ → Told (ℕ × Bool)
+ordersTold room ws = onWords rehearsals (printTold room) ws
 
 abbrev pub ordersWords : ℕ → List ℕ → List ℕ
-ordersWords room ws = stateLeft (fillOf room) (ordersLeft room) ws
+ordersWords room ws = wordsLeft rehearsals (printTold room) (printLeft room) ws
 
 abbrev pub ordersBytes : List ℕ → List ℕ → List ℕ
-ordersBytes ws buf = stateBytes fillBytes ws buf
+ordersBytes ws buf = bytesLeft rehearsals printBytes ws buf
 
--- ---- the beginning
+-- ---- the beginning of a campaign, and of a rehearsal
 
--- 15, at no place, unless there are as many words as a state has; else how the text is judged
-unfoldable pub beginTold : List ℕ → List ℕ → Told (Unit {0})
-beginTold t ws = cond (eqb (length ws) stateCount) (then (readPlanOf t) (λ p. accepted tt)) (refused 15 nowhere)
+-- 15, at no place, unless there are as many words as wanted; else how the text is judged
+unfoldable pub judgedFor : ℕ → List ℕ → List ℕ → Told (Unit {0})
+judgedFor many t ws = cond (eqb (length ws) many) (then (readPlanOf t) (λ p. accepted tt)) (refused 15 nowhere)
 
--- the words of the first state, or 'a state all zeros'; with another length those that were there
-unfoldable pub beginWords : List ℕ → List ℕ → List ℕ
-beginWords t ws = cond (eqb (length ws) stateCount) (stateWords (begunOf t)) ws
+-- the words that begin it; with another length those that were there
+unfoldable pub begunWith : ℕ → List ℕ → List ℕ → List ℕ
+begunWith many first ws = cond (eqb (length ws) many) first ws
+
+abbrev pub beginTold : List ℕ → List ℕ → Told (Unit {0})
+beginTold t ws = judgedFor stateCount t ws
+
+-- the words of the first state, or 'a state all zeros'
+abbrev pub beginWords : List ℕ → List ℕ → List ℕ
+beginWords t ws = begunWith stateCount (stateWords (begunOf t)) ws
+
+abbrev pub rehearseTold : List ℕ → List ℕ → Told (Unit {0})
+rehearseTold t ws = judgedFor rehearsalCount t ws
+
+-- the words of the rehearsal at its first moment, or all zeros
+abbrev pub rehearseWords : List ℕ → List ℕ → List ℕ
+rehearseWords t ws = begunWith rehearsalCount (rehearsalWords (rehearsalOf (begunOf t))) ws

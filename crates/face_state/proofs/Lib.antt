@@ -3,3 +3,4 @@ pub mod Within
 pub mod Runs
 pub mod StateWords
 pub mod Back
+pub mod RehearsalWords

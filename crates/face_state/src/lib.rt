@@ -1,5 +1,6 @@
-// The state of a campaign in words: each field at its place.
+// The state of a campaign in words, and a rehearsal: each field at its place.
 pub mod places;
+pub mod rehearsals;
 
 use crate::places::COVERED;
 use crate::places::ENDED;
@@ -187,7 +188,7 @@ fn last_word(s: State, i: usize) -> u64
 }
 
 // The word at a place of a state.
-fn word_of(s: State, at: usize) -> u64
+pub fn word_of(s: State, at: usize) -> u64
     requires { ⌜ at < stateCount ⌝ }
     ensures { λ r. ⌜ r ≡ word (stateWords s) at ⌝ }
 {

@@ -28,5 +28,10 @@ pub const ENDED: usize = STANDING + 1;
 
 pub const STATE_WORDS: usize = ENDED + 1;
 
+// A rehearsal has its fields at the same places, and its end after the step: JIDROFEX_REHEARSAL_ENDED and JIDROFEX_REHEARSAL_WORDS.
+pub const REHEARSAL_ENDED: usize = STEP + 1;
+
+pub const REHEARSAL_WORDS: usize = REHEARSAL_ENDED + 1;
+
 // The largest number of 32 bits, which the errors are held in.
 pub const LARGEST32: u64 = 4294967295;

@@ -1,6 +1,6 @@
 // Order lines in bulk: as many whole lines as fit a lent buffer, every mark taken as run. A rehearsal of a plan, not a campaign: what goes on from buffer to
 // buffer is no state of a campaign and carries no count.
-mod rehearsals;
+pub mod rehearsals;
 
 use crate::rehearsals::rehearsal_of;
 use crate::rehearsals::state_of;

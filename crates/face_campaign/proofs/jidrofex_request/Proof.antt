@@ -10,7 +10,7 @@ use Rattle.face_values.proofs.Tells.{tells, tells-leaving}
 use Rattle.face_state.specs.States.{stateIn}
 use Rattle.face_state.proofs.StateWords.{held-state, held-none, state-length}
 use Rattle.face_laws.specs.Values.{orderAndBytes, orderThen}
-use Rattle.face_laws.specs.Calls.{toldBy}
+use Rattle.face_laws.specs.Calls.{states, toldBy}
 use Rattle.face_laws.proofs.OnState.{on-told, on-bytes, off-buffer, order-bytes}
 use Rattle.face_laws.proofs.Stays.{called-left}
 use Rattle.face_campaign.proofs.jidrofex_request.Statement.{statement}
@@ -33,8 +33,8 @@ returns c =
     let q = r .request .ensures .0 in
     let t = order-bytes (answerOf call _) (q .written) (tells (orderThen _) (q .answer) (c .give-order .ensures)) in
     let left = o .state-out .ensures ∙ called-left call (a .state .now) (is i) (q .state) in
-    let bytes = r .request .ensures .1 ∙ on-bytes bytesOf (a .state .now) (is i) (a .buffer .now) in
-    tells-leaving orderAndBytes (on-told (toldBy call) (a .state .now) (is i), (left, bytes)) t
+    let bytes = r .request .ensures .1 ∙ on-bytes states bytesOf (a .state .now) (is i) (a .buffer .now) in
+    tells-leaving orderAndBytes (on-told states (toldBy call) (a .state .now) (is i), (left, bytes)) t
 
 returns-2 : tie.Need-returns-2
 returns-2 c =
@@ -43,7 +43,7 @@ returns-2 c =
     let a = h .before .before .before .before .args in
     let call = request (length (a .buffer .now)) in
     let no = held-none (h .state-in .result) (h .state-in .ensures) (n .if1 .left) in
-    tells-leaving orderAndBytes (off-buffer (a .state .now) no (toldBy call) (leftOf call) bytesOf (a .buffer .now)) (c .unfit .ensures)
+    tells-leaving orderAndBytes (off-buffer states (a .state .now) no (toldBy call) (leftOf call) bytesOf (a .buffer .now)) (c .unfit .ensures)
 
 pub jidrofex-request-spec : {M : Type 1} → statement M
 jidrofex-request-spec =
