@@ -46,7 +46,7 @@ heard-panel C w m = by (isClosing w)
     by false = refl
 
 -- no call changes how many jacks the panel has
-after-length : (C : Setting) (c : Call) (a : Answer) (m : model.State) → length (after C c a m .panel) ≡ length (m .panel)
+pub after-length : (C : Setting) (c : Call) (a : Answer) (m : model.State) → length (after C c a m .panel) ≡ length (m .panel)
 unfolding after
 after-length C c (movement o) m = length-carry o (m .panel)
 after-length C c (mark k r) m = refl

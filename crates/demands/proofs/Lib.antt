@@ -1,5 +1,5 @@
--- The theorems: the three demands, demand three for the bytes, then what the paper says of refusals, of the end and of the longest line, and that one answer
--- meets each contract.
+-- The theorems: the three demands, demand three for the bytes, then what the paper says of refusals, of the end and of the longest line, that one answer
+-- meets each contract, and that only reports raise covered.
 pub mod One
 pub mod Two
 pub mod Three
@@ -10,6 +10,7 @@ pub mod Refusals
 pub mod Ends
 pub mod Longest
 pub mod Only
+pub mod Counts
 -- What they rest on.
 pub mod Numbers
 pub mod PlanNumbers

@@ -35,6 +35,9 @@ use Rattle.campaign.specs.Calls as calls
 use Rattle.campaign.specs.Calls.{answerOf, leftOf, bytesOf}
 use Rattle.campaign.proofs.Moments.{refusal-leaves}
 use Rattle.campaign.proofs.Tells.{bytes-stay}
+use Rattle.printing.specs.Rehearsals.{stateOf}
+use Rattle.printing.specs.declared.Rehearsal.{Rehearsal}
+use Rattle.printing.proofs.Refused.{refused-first, rehearsal-stays, bytes-stay as line-bytes-stay}
 use Rattle.plan_rules.specs.Planned.{device}
 use Rattle.demands.specs.One.{OneOf, Refuses, RefusesAs, DemandOne}
 use Rattle.demands.proofs.PlanNumbers.{plan-numbers}
@@ -123,12 +126,12 @@ abbrev ofReport : List ℕ
 ofReport = 15 ∷ 14 ∷ 12 ∷ 16 ∷ []
 
 -- what is offered is an order, a mark, the end, or 15
-offer-numbers : (C : Setting) (m : model.State) → RefusesAs ofRequest (offer C m)
+offer-numbers : (ns : List ℕ) → OneOf ns 15 → (C : Setting) (m : model.State) → RefusesAs ns (offer C m)
 unfolding offer
-offer-numbers C m = answer-cond ofRequest (m .ended) _ _ (λ k e. absurd (true≢false (cc))) (by (todo C m))
+offer-numbers ns h C m = answer-cond ns (m .ended) _ _ (λ k e. absurd (true≢false (cc))) (by (todo C m))
   where
-    by : (o : Option (List Order)) → RefusesAs ofRequest (next C m o)
-    by none = answer-refusal ofRequest 15 (inl refl)
+    by : (o : Option (List Order)) → RefusesAs ns (next C m o)
+    by none = answer-refusal ns 15 h
     by (some []) = λ k e. absurd (true≢false (cc))
     by (some (o ∷ os)) = λ k e. absurd (true≢false (cc))
 
@@ -140,7 +143,7 @@ request-numbers room s =
     answer-cond ofRequest (placesFit s) _ _
     (answer-cond ofRequest (not (model.fit C m)) _ _ (answer-refusal ofRequest 15 (inl refl))
     (answer-cond ofRequest (m .standing) _ _ (answer-refusal ofRequest 13 (inr (inl refl)))
-    (answer-cond ofRequest (ltb room (C .width (offer C m))) _ _ (answer-refusal ofRequest 2 (inr (inr (inl refl)))) (offer-numbers C m))))
+    (answer-cond ofRequest (ltb room (C .width (offer C m))) _ _ (answer-refusal ofRequest 2 (inr (inr (inl refl)))) (offer-numbers ofRequest (inl refl) C m))))
     (answer-refusal ofRequest 15 (inl refl))
 
 report-numbers : (kind : ℕ) (s : State) → RefusesAs ofReport (answerOf (report kind) s)
@@ -155,6 +158,25 @@ report-numbers kind s =
     (answer-cond ofReport (isError (reportOf kind) && leb (C .limit) (m .errors)) _ _ (answer-refusal ofReport 16 (inr (inr (inr (inl refl)))))
     (λ k e. absurd (true≢false (cc)))))))
     (answer-refusal ofReport 15 (inl refl))
+
+-- the plan's numbers
+abbrev ofPlan : List ℕ
+ofPlan = 11 ∷ 7 ∷ 8 ∷ 1 ∷ 9 ∷ 6 ∷ 10 ∷ []
+
+-- a rehearsal has no mark standing, so its requests are not refused with 13
+abbrev ofFill : List ℕ
+ofFill = 15 ∷ 2 ∷ []
+
+rehearsal-numbers : (room : ℕ) (r : Rehearsal) → RefusesAs ofFill (answerOf (request room) (stateOf r))
+unfolding answerOf answer
+rehearsal-numbers room r =
+    let s = stateOf r in
+    let C = settingOf s in
+    let m = momentOf s in
+    answer-cond ofFill (placesFit s) _ _
+    (answer-cond ofFill (not (model.fit C m)) _ _ (answer-refusal ofFill 15 (inl refl))
+    (answer-cond ofFill (ltb room (C .width (offer C m))) _ _ (answer-refusal ofFill 2 (inr (inl refl))) (offer-numbers ofFill (inl refl) C m)))
+    (answer-refusal ofFill 15 (inl refl))
 
 -- a refused call leaves the state as it was, fit or not
 pub state-kept : (c : Call) (s : State) (k : ℕ) → answerOf c s ≡ refusal k → leftOf c s ≡ s
@@ -191,4 +213,8 @@ demand-one = record {
   reported = report-numbers;
   stateKeeps = state-kept;
   bufferKeeps = buffer-kept;
+  rehearse = λ t. from-then ofPlan _ _ (plan-numbers device 1 t) (λ p. from-accepted ofPlan tt);
+  fill = λ room r k p e. rehearsal-numbers room r k (refused-first room (stateOf r) k p e);
+  fillKeeps = rehearsal-stays;
+  fillBytesKeeps = λ r buf. line-bytes-stay (stateOf r) buf;
 }

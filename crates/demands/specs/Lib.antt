@@ -1,7 +1,9 @@
--- Demand one; demand two; the robot of demand three; the calls of the order printer; one answer to each call.
+-- Demand one; demand two; the robot of demand three; the calls of the order printer; one answer to each call; what
+-- adds to covered.
 pub mod One
 pub mod Two
 pub mod Robot
 pub mod Words
 pub mod Prompt
 pub mod Only
+pub mod Counts

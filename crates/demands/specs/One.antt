@@ -9,7 +9,7 @@ use mathlib.Core.List.{List, [], _∷_}
 use lib.IntN.{ℤ}
 use lib.ListN.{length}
 use Rattle.listing.specs.Limits.{mostPorts, largest64}
-use Rattle.words.specs.Told.{Told, Spot, refused}
+use Rattle.words.specs.Told.{Told, Spot, accepted, refused, then}
 use Rattle.words.specs.declared.Line.{Line}
 use Rattle.pattern_check.specs.Calls.{checkAs, checkOf}
 use Rattle.patterns.specs.Calls.{countOf, rankOf, unrankOf, unrankBytes, besideOf, besideBytes, stepOf}
@@ -20,6 +20,10 @@ use Rattle.plans.specs.Calls.{readPlanOf}
 use Rattle.promise.specs.Campaign.{Answer, refusal, Call, request, report}
 use Rattle.campaign_state.specs.declared.State.{State}
 use Rattle.campaign.specs.Calls.{answerOf, leftOf, bytesOf}
+use Rattle.printing.specs.Printing.{linesIn}
+use Rattle.printing.specs.Rehearsals.{rehearsalOf, stateOf}
+use Rattle.printing.specs.Answers.{fillOf, fillBytes}
+use Rattle.printing.specs.declared.Rehearsal.{Rehearsal}
 
 -- k is one of these numbers
 abbrev pub OneOf : List ℕ → ℕ → Type 0
@@ -65,3 +69,8 @@ pub record DemandOne : Type 0 where
   pub reported : (kind : ℕ) (s : State) → RefusesAs (15 ∷ 14 ∷ 12 ∷ 16 ∷ []) (answerOf (report kind) s)
   pub stateKeeps : (c : Call) (s : State) (k : ℕ) → answerOf c s ≡ refusal k → leftOf c s ≡ s
   pub bufferKeeps : (s : State) (buf : List ℕ) (k : ℕ) → answerOf (request (length buf)) s ≡ refusal k → bytesOf s buf ≡ buf
+  -- ---- lines in bulk: the plan's numbers for its text; no mark stands in a rehearsal, so 15 and then 2
+  pub rehearse : (t : List ℕ) → Refuses (11 ∷ 7 ∷ 8 ∷ 1 ∷ 9 ∷ 6 ∷ 10 ∷ []) (then (readPlanOf t) (λ p. accepted (tt {0})))
+  pub fill : (room : ℕ) (r : Rehearsal) → Refuses (15 ∷ 2 ∷ []) (fillOf room (stateOf r))
+  pub fillKeeps : (room : ℕ) (r : Rehearsal) (k : ℕ) (p : Spot) → fillOf room (stateOf r) ≡ refused k p → rehearsalOf (linesIn room (stateOf r) .left) ≡ r
+  pub fillBytesKeeps : (r : Rehearsal) (buf : List ℕ) → Keeps (fillOf (length buf) (stateOf r)) (fillBytes (stateOf r) buf) buf

@@ -29,6 +29,8 @@ use Rattle.plans.proofs.reading.read_plan.Reads as read-plan
 use Rattle.campaign.proofs.Campaign.begin.Reads as begin
 use Rattle.campaign.proofs.Campaign.request.Reads as request
 use Rattle.campaign.proofs.Campaign.report.Reads as report
+use Rattle.campaign_onward.proofs.resume.Reads as resume
+use Rattle.printing.proofs.rehearse.Reads as rehearse
 use Rattle.printing.proofs.fill.Reads as fill
 use Rattle.face_patterns.proofs.jidrofex_check.Reads as face-check
 use Rattle.face_patterns.proofs.jidrofex_check_panel.Reads as face-check-panel
@@ -46,6 +48,7 @@ use Rattle.face_lines.proofs.jidrofex_read_line.Reads as face-read-line
 use Rattle.face_campaign.proofs.jidrofex_begin.Reads as face-begin
 use Rattle.face_campaign.proofs.jidrofex_request.Reads as face-request
 use Rattle.face_campaign.proofs.jidrofex_report.Reads as face-report
+use Rattle.face_campaign.proofs.jidrofex_rehearse.Reads as face-rehearse
 use Rattle.face_campaign.proofs.jidrofex_orders.Reads as face-orders
 
 -- one answer: of a call that leaves nothing in what it was lent
@@ -88,7 +91,9 @@ pub record EachCallOne : Type 0 where
   pub begin : OneAnswer begin.Learnt
   pub request : OneWith request.Learnt (λ κs (_, (buf, _)). now buf)
   pub report : OneAnswer report.Learnt
+  pub resume : OneAnswer resume.Learnt
   -- ---- lines in bulk
+  pub rehearse : OneAnswer rehearse.Learnt
   pub fill : OneWith fill.Learnt (λ κs (_, (buf, _)). now buf)
   -- ---- the calls for C: the number, the words of the answer and each lent slice
   pub faceCheck : One face-check.Learnt (λ κs r (_, (answer, _)). result r (now answer) [])
@@ -107,4 +112,5 @@ pub record EachCallOne : Type 0 where
   pub faceBegin : One face-begin.Learnt (λ κs r (_, (state, (answer, _))). result r (now answer) (now state ∷ []))
   pub faceRequest : One face-request.Learnt (λ κs r (state, (buf, (answer, _))). result r (now answer) (now state ∷ now buf ∷ []))
   pub faceReport : One face-report.Learnt (λ κs r (state, (_, (answer, _))). result r (now answer) (now state ∷ []))
-  pub faceOrders : One face-orders.Learnt (λ κs r (state, (buf, (answer, _))). result r (now answer) (now state ∷ now buf ∷ []))
+  pub faceRehearse : One face-rehearse.Learnt (λ κs r (_, (rehearsal, (answer, _))). result r (now answer) (now rehearsal ∷ []))
+  pub faceOrders : One face-orders.Learnt (λ κs r (rehearsal, (buf, (answer, _))). result r (now answer) (now rehearsal ∷ now buf ∷ []))

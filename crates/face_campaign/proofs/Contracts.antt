@@ -10,10 +10,11 @@ use Rattle.face_values.specs.Answers.{nothing}
 use Rattle.face_values.specs.Only.{Meets, result}
 use Rattle.face_values.proofs.Meets.{meets-leaving, meets-leaving-both}
 use Rattle.face_laws.specs.Values.{orderAndBytes, bytesAndEnd}
-use Rattle.face_laws.specs.Calls.{calledTold, calledWords, requestBytes, ordersTold, ordersWords, ordersBytes, beginTold, beginWords}
+use Rattle.face_laws.specs.Calls.{calledTold, calledWords, requestBytes, beginTold, beginWords, rehearseTold, rehearseWords, ordersTold, ordersWords, ordersBytes}
 use Rattle.face_campaign.proofs.jidrofex_begin.Reads as begin
 use Rattle.face_campaign.proofs.jidrofex_request.Reads as request
 use Rattle.face_campaign.proofs.jidrofex_report.Reads as report
+use Rattle.face_campaign.proofs.jidrofex_rehearse.Reads as rehearse
 use Rattle.face_campaign.proofs.jidrofex_orders.Reads as orders
 
 -- jidrofex_begin(text: &[u8], state: &mut [u64], answer: &mut [u64; 5]) -> u8
@@ -37,10 +38,16 @@ pub report-says : Says report.Learnt
     Meets nothing (calledTold c (now state)) (calledWords c (now state) ∷ []) (result r (now answer) (now left ∷ [])))
 report-says κs a r e h = meets-leaving h
 
--- jidrofex_orders(state: &mut [u64], buffer: &mut [u8], answer: &mut [u64; 5]) -> u8
+-- jidrofex_rehearse(text: &[u8], rehearsal: &mut [u64], answer: &mut [u64; 5]) -> u8
+pub rehearse-says : Says rehearse.Learnt
+    (λ κs (text, (rehearsal, _)) r (_, (left, (answer, _))).
+    Meets nothing (rehearseTold (now text) (now rehearsal)) (rehearseWords (now text) (now rehearsal) ∷ []) (result r (now answer) (now left ∷ [])))
+rehearse-says κs a r e h = meets-leaving h
+
+-- jidrofex_orders(rehearsal: &mut [u64], buffer: &mut [u8], answer: &mut [u64; 5]) -> u8
 pub orders-says : Says orders.Learnt
-    (λ κs (state, (buf, _)) r (left, (bytes, (answer, _))).
+    (λ κs (rehearsal, (buf, _)) r (left, (bytes, (answer, _))).
     let room = length (now buf) in
-    Meets bytesAndEnd (ordersTold room (now state)) (ordersWords room (now state) ∷ ordersBytes (now state) (now buf) ∷ [])
+    Meets bytesAndEnd (ordersTold room (now rehearsal)) (ordersWords room (now rehearsal) ∷ ordersBytes (now rehearsal) (now buf) ∷ [])
     (result r (now answer) (now left ∷ now bytes ∷ [])))
 orders-says κs a r e h = meets-leaving-both h

@@ -112,7 +112,7 @@ narrow-words s z =
     ∙ sym (words-parts s)
 
 -- the state of 61 words has its places
-sized-at : (ws : List ℕ) → length ws ≡ stateCount → Sized (stateAt ws)
+pub sized-at : (ws : List ℕ) → length ws ≡ stateCount → Sized (stateAt ws)
 sized-at ws e = record {
   starts = omega (arith, length-take mostLegs (drop startsPlace ws), length-drop startsPlace ws);
   runs = length-map (wordsAt ws runsPlace mostLegs) runIn ∙ omega (arith, length-take mostLegs (drop runsPlace ws), length-drop runsPlace ws);
