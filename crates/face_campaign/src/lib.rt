@@ -1,6 +1,7 @@
 // The calls for C on a campaign whose state stands in the words of the caller, and on a rehearsal (include/jidrofex.h).
 use campaign::Answer;
 use campaign::Campaign;
+use campaign_onward::resume;
 use face_state::places::REHEARSAL_WORDS;
 use face_state::places::STATE_WORDS;
 use face_state::rehearsals::rehearsal_in;
@@ -12,10 +13,12 @@ use face_values::answers::give;
 use face_values::answers::give_outcome;
 use face_values::answers::refuse;
 use face_values::lines::give_line;
+use pattern_check::checking::check_panel;
 use printing::Filled;
 use printing::fill;
 use printing::rehearse;
 use words::Line;
+use words::Outcome;
 use words::Reason;
 use words::refusals::nowhere;
 ghost use mathlib.Core.Path.{_≡_};
@@ -26,7 +29,7 @@ ghost use Rattle.campaign.specs.Answers.{answerTold};
 ghost use Rattle.printing.specs.Answers.{filledTold};
 ghost use Rattle.face_values.specs.Answers.{five, numberTold, wordsTold, nothing};
 ghost use Rattle.face_laws.specs.Values.{orderAndBytes, orderThen, bytesAndEnd};
-ghost use Rattle.face_laws.specs.Calls.{calledTold, calledWords, requestBytes, ordersTold, ordersWords, ordersBytes, beginTold, beginWords, rehearseTold, rehearseWords};
+ghost use Rattle.face_laws.specs.Calls.{calledTold, calledWords, requestBytes, resumeTold, resumeWords, ordersTold, ordersWords, ordersBytes, beginTold, beginWords, rehearseTold, rehearseWords};
 
 // ---- answers
 
@@ -154,6 +157,32 @@ pub extern "C" fn jidrofex_rehearse(
     rehearsal_out(first, rehearsal);
     let judged = rehearsed.judged;
     give_outcome(judged, answer)
+}
+
+// The state with the panel as it was read back, to go on from after a power cut.
+#[no_mangle]
+pub extern "C" fn jidrofex_resume(
+    state: &mut [u64],
+    panel: &[u8],
+    answer: &mut [u64; ANSWER_WORDS],
+) -> u8
+    ensures number { λ r. ⌜ r ≡ numberTold (resumeTold (now (panel .entry)) (now (state .entry))) ⌝ }
+    ensures words { λ _. ⌜ now (answer .exit) ≡ wordsTold nothing (resumeTold (now (panel .entry)) (now (state .entry))) ⌝ }
+    ensures left { λ _. ⌜ now (state .exit) ≡ resumeWords (now (panel .entry)) (now (state .entry)) ⌝ }
+{
+    let held = state_in(state);
+    if held.known {
+        let s = held.state;
+        let r = resume(Campaign { state: s }, panel);
+        let left = r.campaign;
+        state_out(left.state, state);
+        let judged = r.judged;
+        return give_outcome(judged, answer);
+    }
+    match check_panel(panel) {
+        Outcome::Refused(f) => refuse(f, answer),
+        Outcome::Accepted => unfit(answer),
+    }
 }
 
 // As many whole lines as fit the buffer, every mark taken as run.

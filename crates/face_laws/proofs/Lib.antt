@@ -1,3 +1,4 @@
 pub mod OnState
 pub mod Stays
+pub mod Resumes
 pub mod Only

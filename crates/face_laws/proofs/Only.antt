@@ -18,7 +18,7 @@ use Rattle.face_values.specs.Answers.{nothing, oneNumber}
 use Rattle.face_values.specs.Lines.{moveWords, lineIn}
 use Rattle.face_values.specs.Only.{Only}
 use Rattle.face_laws.specs.Values.{lineAndPlace, orderAndBytes, bytesAndEnd}
-use Rattle.face_laws.specs.Calls.{calledTold, calledWords, requestBytes, ordersTold, ordersWords, ordersBytes, beginTold, beginWords, rehearseTold, rehearseWords}
+use Rattle.face_laws.specs.Calls.{calledTold, calledWords, requestBytes, ordersTold, ordersWords, ordersBytes, beginTold, beginWords, resumeTold, resumeWords, rehearseTold, rehearseWords}
 
 -- one result meets the clauses of a contract
 only : {A : Type 0} (values : A → List ℕ) (told : Told A) (left : List (List ℕ)) → Only values told left
@@ -82,6 +82,9 @@ pub only-report : (ws : List ℕ) (kind : ℕ) → Only nothing (calledTold (rep
 only-report ws kind = only _ _ _
 
 -- ---- a rehearsal
+
+pub only-resume : (p ws : List ℕ) → Only nothing (resumeTold p ws) (resumeWords p ws ∷ [])
+only-resume p ws = only _ _ _
 
 pub only-rehearse : (t ws : List ℕ) → Only nothing (rehearseTold t ws) (rehearseWords t ws ∷ [])
 only-rehearse t ws = only _ _ _

@@ -1,17 +1,20 @@
 -- What the calls on a state or a rehearsal tell and leave where it crosses in words. The other calls tell what the calls that they wrap tell.
 -- Assumes nothing.
 use Prim.Native.Nat.{ℕ}
-use mathlib.Core.Bool.{Bool, cond}
+use mathlib.Core.Bool.{Bool, false, cond}
 use mathlib.Core.List.{List}
 use mathlib.Core.Option.{Option, none, some}
 use lib.Dec.{eqb}
 use lib.ListN.{length}
+use Rattle.listing.specs.Limits.{mostPorts}
 use Rattle.words.specs.Told.{Told, accepted, refused, nowhere, then, need, leaves}
 use Rattle.promise.specs.Campaign as model
 use Rattle.promise.specs.Campaign.{Call}
 use Rattle.plans.specs.Calls.{readPlanOf}
 use Rattle.campaign_state.specs.declared.State.{State}
 use Rattle.campaign.specs.Calls.{answerOf, toldOf, leftOf, bytesOf, begunOf}
+use Rattle.pattern_check.specs.Calls.{checkAs}
+use Rattle.campaign_onward.specs.Calls.{panelIn, fitTold}
 use Rattle.printing.specs.Printing.{linesIn}
 use Rattle.printing.specs.Rehearsals.{rehearsalOf, stateOf}
 use Rattle.printing.specs.Answers.{fillOf, fillBytes}
@@ -69,6 +72,16 @@ calledWords c ws = wordsLeft states (toldBy c) (leftOf c) ws
 
 abbrev pub requestBytes : List ℕ → List ℕ → List ℕ
 requestBytes ws buf = bytesLeft states bytesOf ws buf
+
+-- ---- going on after a power cut
+
+-- the panel's own refusals first (1, 3, 4); then 15, at no place, for words that are no state, for other ports, and for a state that is not fit with the panel
+unfoldable pub resumeTold : List ℕ → List ℕ → Told (Unit {0})
+resumeTold p ws = then (checkAs false mostPorts p) (λ x. onWords states (λ s. fitTold s p) ws)
+
+-- the words of the state with the panel put in; on a refusal those that were there
+unfoldable pub resumeWords : List ℕ → List ℕ → List ℕ
+resumeWords p ws = leaves (resumeTold p ws) (leftIn states (panelIn p) (stateIn ws) ws) ws
 
 -- ---- the orders in bulk
 

@@ -13,7 +13,7 @@ use Rattle.campaign.specs.Calls.{leftOf, bytesOf}
 use Rattle.campaign_reached.specs.Turns.{AcceptedPlan, begun}
 use Rattle.campaign_reached.proofs.Reached.{Reached, reached-first, reached-left}
 use Rattle.face_state.specs.States.{stateCount, stateIn}
-use Rattle.face_laws.specs.Calls.{toldBy, calledTold, calledWords, requestBytes, beginWords}
+use Rattle.face_laws.specs.Calls.{states, toldBy, calledTold, calledWords, requestBytes, beginWords}
 use Rattle.face_laws.proofs.OnState.{on-told, on-bytes}
 use Rattle.face_laws.proofs.Stays.{called-left}
 use Rattle.face_reached.proofs.InRange.{Holds, begun-holds, left-holds, reached-back}
@@ -37,7 +37,7 @@ module _ (P : AcceptedPlan) where
   module _ (ws : List ℕ) (s : State) (r : Read P ws s) (c : Call) where
     -- a call on them tells what the call behind it tells of the state
     pub told-there : calledTold c ws ≡ toldBy c s
-    told-there = sym (on-told (toldBy c) ws (sym (r .is)))
+    told-there = sym (on-told states (toldBy c) ws (sym (r .is)))
 
     -- and leaves the words of the state that this one leaves
     pub read-left : Read P (calledWords c ws) (leftOf c s)
@@ -53,4 +53,4 @@ module _ (P : AcceptedPlan) where
 
   -- a request writes the same bytes
   pub bytes-there : (ws : List ℕ) (s : State) → Read P ws s → (buf : List ℕ) → requestBytes ws buf ≡ bytesOf s buf
-  bytes-there ws s r buf = sym (on-bytes bytesOf ws (sym (r .is)) buf)
+  bytes-there ws s r buf = sym (on-bytes states bytesOf ws (sym (r .is)) buf)
