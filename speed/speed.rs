@@ -8,6 +8,7 @@ use reference::campaign::{print, WORDS};
 use reference::circuit::each_pattern;
 use reference::list::{at, count_of, Move};
 use reference::panel::orders;
+use reference::rehearsal::REHEARSAL_WORDS;
 use reference::text::Line;
 use reference::{relations, told};
 use std::ptr::read_volatile;
@@ -203,6 +204,13 @@ fn begun(n: usize) -> (Vec<u8>, Vec<u64>) {
     (plan, state)
 }
 
+/// The same plan's rehearsal.
+fn rehearsed(n: usize) -> (Vec<u8>, Vec<u64>) {
+    let (plan, mut rehearsal, mut answer) = (begun(n).0, vec![0; REHEARSAL_WORDS], [0; 5]);
+    assert_eq!(told::rehearse(&plan, &mut rehearsal, &mut answer), 0, "the plan is accepted");
+    (plan, rehearsal)
+}
+
 type Request = fn(&mut [u64], &mut [u8], &mut Answer) -> u8;
 type Report = fn(&mut [u64], u8, &mut Answer) -> u8;
 
@@ -231,11 +239,11 @@ fn campaign_table() {
     }
 }
 
-/// Every line of a state's campaign by jidrofex_orders.
+/// Every line of a rehearsal by jidrofex_orders.
 fn library_prints(first: &[u64], buffer: &mut [u8]) -> usize {
-    let (mut state, mut answer, mut lines) = (first.to_vec(), [0; 5], 0);
+    let (mut rehearsal, mut answer, mut lines) = (first.to_vec(), [0; 5], 0);
     while answer[1] == 0 {
-        assert_eq!(face::orders(&mut state, buffer, &mut answer), 0);
+        assert_eq!(face::orders(&mut rehearsal, buffer, &mut answer), 0);
         lines += count_lines(&buffer[..answer[0] as usize]);
     }
     lines
@@ -266,7 +274,7 @@ fn printer_table() {
     println!("| ports | lines | library | reference | plain Rust |\n|---|---|---|---|---|");
     let mut buffer = vec![0; 1 << 16];
     for &n in effort().printed {
-        let (plan, first) = begun(n);
+        let (plan, first) = rehearsed(n);
         let text = print(&plan);
         assert!(plain_prints(n) == text, "the two printers print the same");
         let lines = count_lines(&text);

@@ -1,6 +1,6 @@
 //! The deepest stack of each call.
 
-use super::{begun, patterns};
+use super::{begun, patterns, rehearsed};
 use face::Answer;
 use reference::campaign::STANDING;
 use std::arch::asm;
@@ -39,10 +39,11 @@ fn depth(call: &mut dyn FnMut()) -> usize {
     top - reached.unwrap_or(top)
 }
 
-/// What is lent to the calls: a pattern of 20 ports, a state in the middle of a leg, a buffer, an answer.
+/// What is lent to the calls: a pattern of 20 ports, a state in the middle of a leg, a rehearsal, a buffer, an answer.
 struct Lent {
     pattern: Vec<u8>,
     state: Vec<u64>,
+    rehearsal: Vec<u64>,
     buffer: Vec<u8>,
     answer: Answer,
 }
@@ -50,7 +51,7 @@ struct Lent {
 /// The deepest of a call over 256 inputs, each made ready first. The first round of calls is not looked at: the loader may take stack in it.
 fn deepest(ready: impl Fn(&mut Lent) + Send, call: impl Fn(&mut Lent) + Send) -> usize {
     let measure = move || {
-        let mut lent = Lent { pattern: vec![], state: begun(20).1, buffer: vec![0; 4096], answer: [0; 5] };
+        let mut lent = Lent { pattern: vec![], state: begun(20).1, rehearsal: rehearsed(20).1, buffer: vec![0; 4096], answer: [0; 5] };
         let mut most = 0;
         for round in 0..2 {
             for pattern in patterns(20) {
@@ -106,7 +107,8 @@ pub fn stack_table() {
     show("begin", deepest(nothing, |l| accepted(face::begin(plan, &mut l.state, &mut l.answer))));
     show("request", deepest(for_request, |l| accepted(face::request(&mut l.state, &mut l.buffer, &mut l.answer))));
     show("report", deepest(for_report, |l| accepted(face::report(&mut l.state, 0, &mut l.answer))));
-    show("orders", deepest(for_request, |l| accepted(face::orders(&mut l.state, &mut l.buffer, &mut l.answer))));
+    show("rehearse", deepest(nothing, |l| accepted(face::rehearse(plan, &mut l.rehearsal, &mut l.answer))));
+    show("orders", deepest(nothing, |l| accepted(face::orders(&mut l.rehearsal, &mut l.buffer, &mut l.answer))));
 }
 
 /// The call was accepted: a refused one would say nothing of the stack.

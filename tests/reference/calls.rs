@@ -22,10 +22,11 @@ pub enum Name {
     Begin,
     Request,
     Report { kind: u8 },
+    Rehearse,
     Orders,
 }
 
-/// A call: its name, the bytes lent to it (a pattern, a panel, a text or a buffer) and the words (a line or a state).
+/// A call: its name, the bytes lent to it (a pattern, a panel, a text or a buffer) and the words (a line, a state or a rehearsal).
 #[derive(Clone)]
 pub struct Call {
     pub name: Name,
@@ -88,6 +89,7 @@ pub struct Side {
     begin: fn(&[u8], &mut [u64], &mut Answer) -> u8,
     request: fn(&mut [u64], &mut [u8], &mut Answer) -> u8,
     report: fn(&mut [u64], u8, &mut Answer) -> u8,
+    rehearse: fn(&[u8], &mut [u64], &mut Answer) -> u8,
     orders: fn(&mut [u64], &mut [u8], &mut Answer) -> u8,
 }
 
@@ -112,6 +114,7 @@ macro_rules! side {
             begin: calls::begin,
             request: calls::request,
             report: calls::report,
+            rehearse: calls::rehearse,
             orders: calls::orders,
         }
     }};
@@ -179,6 +182,7 @@ impl Side {
             Name::Begin => (self.begin)(bytes, words, answer),
             Name::Request => (self.request)(words, bytes, answer),
             Name::Report { kind } => (self.report)(words, kind, answer),
+            Name::Rehearse => (self.rehearse)(bytes, words, answer),
             Name::Orders => (self.orders)(words, bytes, answer),
         };
         let answer = *answer;

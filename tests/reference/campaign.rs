@@ -45,15 +45,7 @@ impl State {
 
     pub fn to_words(&self) -> [u64; WORDS] {
         let mut words = [0; WORDS];
-        words[PORTS] = self.plan.ports as u64;
-        words[LEGS] = self.plan.legs.len() as u64;
-        for (l, leg) in self.plan.legs.iter().enumerate() {
-            words[STARTS + l] = leg.start as u64;
-            words[RUNS + l] = leg.run as i64 as u64;
-        }
-        for (j, &port) in self.panel.iter().enumerate() {
-            words[PANEL + j] = port.into();
-        }
+        put_places(&mut words, &self.plan, &self.panel);
         words[LEG] = self.leg as u64;
         words[STEP] = self.step as u64;
         words[COVERED] = self.covered as u64;
@@ -74,41 +66,24 @@ impl State {
         if words.len() != WORDS {
             return None;
         }
-        let ports = usize::try_from(words[PORTS]).ok().filter(|&ports| ports <= MOST_PORTS)?;
-        let legs = usize::try_from(words[LEGS]).ok().filter(|&legs| legs <= MOST_LEGS)?;
-        let unused = [&words[STARTS + legs..RUNS], &words[RUNS + legs..PANEL], &words[PANEL + ports..LEG]];
-        if unused.concat().iter().any(|&word| word != 0) {
-            return None;
-        }
-        let leg = |l: usize| Leg { start: words[STARTS + l].into(), run: i128::from(words[RUNS + l] as i64) };
-        let flag = |place: usize| [false, true].get(usize::try_from(words[place]).ok()?).copied();
+        let (plan, panel) = read_places(words)?;
         Some(State {
-            plan: Plan { ports, legs: (0..legs).map(leg).collect() },
-            panel: words[PANEL..PANEL + ports].iter().map(|&port| u8::try_from(port).ok()).collect::<Option<_>>()?,
+            plan,
+            panel,
             leg: usize::try_from(words[LEG]).ok()?,
             step: words[STEP].into(),
             covered: words[COVERED].into(),
             open: words[OPEN].into(),
             errors: words[ERRORS].into(),
-            standing: flag(STANDING)?,
-            ended: flag(ENDED)?,
+            standing: flag(words[STANDING])?,
+            ended: flag(words[ENDED])?,
         })
     }
 
     /// Row 15 of the paper's table, in its order.
     fn is_fit(&self) -> bool {
         let State { plan, leg, step, .. } = self;
-        if plan.ports < 2 || plan.legs.is_empty() {
-            return false;
-        }
-        let count = count_of(plan.ports);
-        if plan.legs.iter().any(|leg| leg.start >= count || leg.run.unsigned_abs() >= count) {
-            return false;
-        }
-        if *leg >= plan.legs.len() || *step > plan.legs[*leg].run.unsigned_abs() {
-            return false;
-        }
-        if check_panel(&self.panel).is_err() || !self.panel_as_said() {
+        if !within_rules(plan, *leg, *step) || check_panel(&self.panel).is_err() || !self.panel_as_said() {
             return false;
         }
         if self.ended && (self.standing || !plan.is_last(*leg, *step)) {
@@ -118,24 +93,12 @@ impl State {
         self.covered + self.open == closed && self.errors <= MOST_ERRORS
     }
 
-    /// 'For 15 the panel must be: the mark's pattern while a mark stands; any permutation before a leg's first mark; later in a leg, with none
-    /// standing, the last mark's pattern, that pattern after the first of two swaps, or the wanted one; after the end, the last mark's pattern.'
+    /// 'For 15 the panel must be: the mark's pattern while a mark stands; .. after the end, the last mark's pattern.'
     fn panel_as_said(&self) -> bool {
-        let wanted = self.plan.pattern(self.leg, self.step);
         if self.standing || self.ended {
-            return self.panel == wanted;
+            return self.panel == self.plan.pattern(self.leg, self.step);
         }
-        if self.step == 0 {
-            return true;
-        }
-        let mut on_the_way = self.plan.pattern(self.leg, self.step - 1);
-        let moves = difference(&on_the_way, &wanted).map(orders).unwrap_or_default();
-        let mut met = self.panel == on_the_way;
-        for order in moves {
-            obey(&mut on_the_way, order);
-            met |= self.panel == on_the_way;
-        }
-        met
+        may_stand(&self.plan, &self.panel, self.leg, self.step)
     }
 
     /// What a fit state with no mark standing hands out next.
@@ -143,20 +106,8 @@ impl State {
         if self.ended {
             return Line::End(self.plan.marks() as u64);
         }
-        let wanted = self.plan.pattern(self.leg, self.step);
-        if self.panel == wanted {
-            return Line::Mark(self.plan.number(self.leg, self.step) as u64, self.plan.rank(self.leg, self.step) as u64);
-        }
-        if self.step == 0 {
-            return carriage(&self.panel, &wanted).expect("the panel is not the wanted one");
-        }
-        let last = self.plan.pattern(self.leg, self.step - 1);
-        let moves = orders(difference(&last, &wanted).expect("neighbours of the list are one move apart"));
-        if self.panel == last {
-            moves[0]
-        } else {
-            moves[1]
-        }
+        let mark = || Line::Mark(self.plan.number(self.leg, self.step) as u64, self.plan.rank(self.leg, self.step) as u64);
+        order_towards(&self.plan, &self.panel, self.leg, self.step).unwrap_or_else(mark)
     }
 
     /// A request on a fit state, with so much room for the line: the line and the new state. 'A movement order handed out counts as carried out in
@@ -205,27 +156,79 @@ impl State {
         }
         Ok(after)
     }
+}
 
-    /// As many whole lines as fit the room, every mark taken as run: their text, whether the end is among them, and the new state.
-    pub fn orders(&self, room: usize) -> Result<(Vec<u8>, bool, State), Refusal> {
-        let mut state = self.clone();
-        let mut text = vec![];
-        loop {
-            match state.request(room - text.len()) {
-                Err(refusal) if text.is_empty() => return Err(refusal),
-                Err(_) => return Ok((text, false, state)),
-                Ok((line, after)) => {
-                    text.extend(line.text());
-                    state = after;
-                    match line {
-                        Line::Mark(..) => state = state.report(0)?,
-                        Line::End(_) => return Ok((text, true, state)),
-                        _ => {}
-                    }
-                }
-            }
-        }
+/// Plan and panel at their places of the words of a state or a rehearsal.
+pub fn put_places(words: &mut [u64], plan: &Plan, panel: &[u8]) {
+    words[PORTS] = plan.ports as u64;
+    words[LEGS] = plan.legs.len() as u64;
+    for (l, leg) in plan.legs.iter().enumerate() {
+        words[STARTS + l] = leg.start as u64;
+        words[RUNS + l] = leg.run as i64 as u64;
     }
+    for (j, &port) in panel.iter().enumerate() {
+        words[PANEL + j] = port.into();
+    }
+}
+
+/// Plan and panel from there: none where a word is one that its field cannot hold, or an unused place is not 0.
+pub fn read_places(words: &[u64]) -> Option<(Plan, Vec<u8>)> {
+    let ports = usize::try_from(words[PORTS]).ok().filter(|&ports| ports <= MOST_PORTS)?;
+    let legs = usize::try_from(words[LEGS]).ok().filter(|&legs| legs <= MOST_LEGS)?;
+    let unused = [&words[STARTS + legs..RUNS], &words[RUNS + legs..PANEL], &words[PANEL + ports..LEG]];
+    if unused.concat().iter().any(|&word| word != 0) {
+        return None;
+    }
+    let leg = |l: usize| Leg { start: words[STARTS + l].into(), run: i128::from(words[RUNS + l] as i64) };
+    let panel = words[PANEL..PANEL + ports].iter().map(|&port| u8::try_from(port).ok()).collect::<Option<_>>()?;
+    Some((Plan { ports, legs: (0..legs).map(leg).collect() }, panel))
+}
+
+/// A word that is 0 or 1.
+pub fn flag(word: u64) -> Option<bool> {
+    [false, true].get(usize::try_from(word).ok()?).copied()
+}
+
+/// 'Ports, legs, start or run outside the rules, leg not below legs, step above |run|': none of these.
+pub fn within_rules(plan: &Plan, leg: usize, step: u128) -> bool {
+    if plan.ports < 2 || plan.legs.is_empty() {
+        return false;
+    }
+    let count = count_of(plan.ports);
+    plan.legs.iter().all(|leg| leg.start < count && leg.run.unsigned_abs() < count)
+        && leg < plan.legs.len()
+        && step <= plan.legs[leg].run.unsigned_abs()
+}
+
+/// 'Any permutation before a leg's first mark; later in a leg, with none standing, the last mark's pattern, that pattern after the first of two
+/// swaps, or the wanted one.'
+pub fn may_stand(plan: &Plan, panel: &[u8], leg: usize, step: u128) -> bool {
+    if step == 0 {
+        return true;
+    }
+    let mut on_the_way = plan.pattern(leg, step - 1);
+    let moves = difference(&on_the_way, &plan.pattern(leg, step)).map(orders).unwrap_or_default();
+    let mut met = panel == on_the_way;
+    for order in moves {
+        obey(&mut on_the_way, order);
+        met |= panel == on_the_way;
+    }
+    met
+}
+
+/// The next order on the way to a mark; none where the panel has its pattern. 'Before a leg's first mark the panel is carried there'; 'inside a leg, the
+/// orders are the one move to the neighbour, two swaps being two orders.'
+pub fn order_towards(plan: &Plan, panel: &[u8], leg: usize, step: u128) -> Option<Line> {
+    let wanted = plan.pattern(leg, step);
+    if panel == wanted {
+        return None;
+    }
+    if step == 0 {
+        return carriage(panel, &wanted);
+    }
+    let last = plan.pattern(leg, step - 1);
+    let moves = orders(difference(&last, &wanted).expect("neighbours of the list are one move apart"));
+    Some(if panel == last { moves[0] } else { moves[1] })
 }
 
 /// The order printer: 'judges the first 1,024 bytes as a plan, takes every mark as run and prints every order. For a refusal it prints only

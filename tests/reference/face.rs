@@ -22,7 +22,8 @@ pub mod raw {
         pub fn jidrofex_begin(text: *const u8, bytes: usize, state: *mut u64, words: usize, answer: *mut u64) -> u8;
         pub fn jidrofex_request(state: *mut u64, words: usize, buffer: *mut u8, bytes: usize, answer: *mut u64) -> u8;
         pub fn jidrofex_report(state: *mut u64, words: usize, kind: u8, answer: *mut u64) -> u8;
-        pub fn jidrofex_orders(state: *mut u64, words: usize, buffer: *mut u8, bytes: usize, answer: *mut u64) -> u8;
+        pub fn jidrofex_rehearse(text: *const u8, bytes: usize, rehearsal: *mut u64, words: usize, answer: *mut u64) -> u8;
+        pub fn jidrofex_orders(rehearsal: *mut u64, words: usize, buffer: *mut u8, bytes: usize, answer: *mut u64) -> u8;
     }
 }
 
@@ -90,6 +91,10 @@ pub fn report(state: &mut [u64], kind: u8, answer: &mut Answer) -> u8 {
     unsafe { raw::jidrofex_report(state.as_mut_ptr(), state.len(), kind, answer.as_mut_ptr()) }
 }
 
-pub fn orders(state: &mut [u64], buffer: &mut [u8], answer: &mut Answer) -> u8 {
-    unsafe { raw::jidrofex_orders(state.as_mut_ptr(), state.len(), buffer.as_mut_ptr(), buffer.len(), answer.as_mut_ptr()) }
+pub fn rehearse(text: &[u8], rehearsal: &mut [u64], answer: &mut Answer) -> u8 {
+    unsafe { raw::jidrofex_rehearse(text.as_ptr(), text.len(), rehearsal.as_mut_ptr(), rehearsal.len(), answer.as_mut_ptr()) }
+}
+
+pub fn orders(rehearsal: &mut [u64], buffer: &mut [u8], answer: &mut Answer) -> u8 {
+    unsafe { raw::jidrofex_orders(rehearsal.as_mut_ptr(), rehearsal.len(), buffer.as_mut_ptr(), buffer.len(), answer.as_mut_ptr()) }
 }

@@ -24,7 +24,7 @@ pub struct Group {
     pub meets: &'static [u8],
 }
 
-pub const GROUPS: [Group; 27] = [
+pub const GROUPS: [Group; 32] = [
     Group { name: "count", work: Work::Whole(count), meets: &[0, 1] },
     Group { name: "circuits", work: Work::Whole(circuits), meets: &[0] },
     Group { name: "joins", work: Work::Whole(joins), meets: &[0] },
@@ -32,6 +32,7 @@ pub const GROUPS: [Group; 27] = [
     Group { name: "null", work: Work::Whole(null_pointers), meets: &[1, 2, 11, 15] },
     Group { name: "errors", work: Work::Whole(errors), meets: &[0, 15, 16] },
     Group { name: "words", work: Work::Whole(words), meets: &[0, 12, 13, 14, 15] },
+    Group { name: "words of rehearsals", work: Work::Whole(rehearsal_words), meets: &[0, 15] },
     Group { name: "crossing", work: Work::Share(2, crossing), meets: &[0] },
     Group { name: "check", work: Work::Share(4, |h, r| on_pattern(h, r, Name::Check)), meets: &[0, 1, 3, 4, 5] },
     Group { name: "check_panel", work: Work::Share(3, |h, r| on_panel(h, r, Name::CheckPanel)), meets: &[0, 1, 3, 4] },
@@ -47,9 +48,13 @@ pub const GROUPS: [Group; 27] = [
     Group { name: "read_line", work: Work::Share(8, read_line), meets: &[0, 7, 8, 11, 17] },
     Group { name: "begin", work: Work::Share(4, begin), meets: &[0, 15] },
     Group { name: "damaged plans", work: Work::Share(6, damaged_plans), meets: &[0, 1, 6, 7, 8, 9, 10, 11, 15] },
-    Group { name: "campaigns", work: Work::Share(12, campaigns), meets: &[0, 2, 12, 13, 14] },
+    Group { name: "campaigns", work: Work::Share(12, campaigns), meets: &[0, 2, 12, 13, 14, 15] },
     Group { name: "reached states", work: Work::Share(5, reached_states), meets: &[0, 2, 12, 13, 14, 16] },
     Group { name: "damaged states", work: Work::Share(8, damaged_states), meets: &[0, 12, 13, 15] },
     Group { name: "random states", work: Work::Share(3, random_states), meets: &[0, 12, 15] },
-    Group { name: "orders", work: Work::Share(4, orders), meets: &[0, 2, 13] },
+    Group { name: "rehearse", work: Work::Share(3, rehearse), meets: &[0, 1, 6, 7, 8, 9, 10, 11, 15] },
+    Group { name: "orders", work: Work::Share(4, orders), meets: &[0, 2] },
+    Group { name: "rehearsals", work: Work::Share(3, rehearsals), meets: &[0, 2, 15] },
+    Group { name: "damaged rehearsals", work: Work::Share(4, damaged_rehearsals), meets: &[0, 2, 15] },
+    Group { name: "random rehearsals", work: Work::Share(2, random_rehearsals), meets: &[0, 15] },
 ];

@@ -8,6 +8,7 @@
 //! - `text`: numbers and order lines
 //! - `plan`: the reading of plans
 //! - `campaign`: the state, its fitness, request, report, and the order printer
+//! - `rehearsal`: lines in bulk, with no counts
 //! - `told`: all of these as the calls of include/jidrofex.h, in numbers and slices
 
 pub mod campaign;
@@ -15,6 +16,7 @@ pub mod circuit;
 pub mod list;
 pub mod panel;
 pub mod plan;
+pub mod rehearsal;
 pub mod relations;
 pub mod text;
 pub mod told;

@@ -8,6 +8,7 @@ use reference::circuit::each_pattern;
 use reference::list::{apply, at, at_reversed, check, check_panel, count, count_of, difference, next, place, place_reversed, previous, rank, step, unrank, Move};
 use reference::panel::carry;
 use reference::plan::read_plan;
+use reference::rehearsal::Rehearsal;
 use reference::text::{read_line, write_line, Line};
 use reference::{relations, Refusal};
 use std::collections::HashSet;
@@ -308,6 +309,20 @@ fn joins(n: usize, compared: &mut Compared) {
     }
 }
 
+/// Every line of a campaign whose marks are all reported as run.
+fn all_run(first: State) -> Vec<u8> {
+    let (mut state, mut text) = (first, vec![]);
+    loop {
+        let (line, after) = state.request(45).expect("a line has 45 bytes at most");
+        text.extend(line.text());
+        state = match line {
+            Line::Mark(..) => after.report(0).expect("a mark stands"),
+            Line::End(_) => return text,
+            _ => after,
+        };
+    }
+}
+
 fn main() {
     let mut compared = Compared(0);
     tables(&mut compared);
@@ -316,9 +331,10 @@ fn main() {
     order_lines(&mut compared);
     campaign(&mut compared);
     compared.same("the paper's example", print(PLAN), OUTPUT.to_vec());
-    let first = State::first(read_plan(PLAN).expect("the paper's plan is accepted"));
-    let (text, ended, _) = first.orders(1024).expect("its orders fit");
-    compared.same("the paper's example by requests and reports", (text, ended), (OUTPUT.to_vec(), true));
+    let plan = read_plan(PLAN).expect("the paper's plan is accepted");
+    let (text, ended, _) = Rehearsal::first(plan.clone()).orders(1024).expect("its orders fit");
+    compared.same("the paper's example by a rehearsal", (text, ended), (OUTPUT.to_vec(), true));
+    compared.same("the paper's example by requests and reports", all_run(State::first(plan)), OUTPUT.to_vec());
     // the printer judges the first 1,024 bytes, `begin` the whole text: one line of 1,025 bytes has no newline for the one and a bad number for the other
     let long = [b"ports=".as_slice(), &[b'1'; 1018], b"\n"].concat();
     compared.same("a long line, printed", print(&long), b"refused=11\nat=1\n".to_vec());

@@ -3,6 +3,7 @@
 use crate::campaign::{State, WORDS};
 use crate::list::Move;
 use crate::plan::read_plan;
+use crate::rehearsal::{Rehearsal, REHEARSAL_WORDS};
 use crate::text::Line;
 use crate::{list, panel, refusal, text, Refusal};
 
@@ -165,12 +166,23 @@ pub fn report(state: &mut [u64], kind: u8, answer: &mut Answer) -> u8 {
     )
 }
 
-pub fn orders(state: &mut [u64], buffer: &mut [u8], answer: &mut Answer) -> u8 {
-    let printed = State::from_words(state).and_then(|fit| fit.orders(buffer.len()));
+/// 'A refused text leaves it all zeros; words of the wrong number are refused (15) before the text is looked at.'
+pub fn rehearse(text: &[u8], rehearsal: &mut [u64], answer: &mut Answer) -> u8 {
+    if rehearsal.len() != REHEARSAL_WORDS {
+        return tell(Err(refusal(15)), answer);
+    }
+    let read = read_plan(text);
+    let first = read.clone().map_or([0; REHEARSAL_WORDS], |plan| Rehearsal::first(plan).to_words());
+    rehearsal.copy_from_slice(&first);
+    tell(read.map(|_| NOTHING), answer)
+}
+
+pub fn orders(rehearsal: &mut [u64], buffer: &mut [u8], answer: &mut Answer) -> u8 {
+    let printed = Rehearsal::from_words(rehearsal).and_then(|fit| fit.orders(buffer.len()));
     tell(
-        printed.map(|(text, ended, after)| {
+        printed.map(|(text, ended, left)| {
             buffer[..text.len()].copy_from_slice(&text);
-            state.copy_from_slice(&after.to_words());
+            rehearsal.copy_from_slice(&left.to_words());
             [text.len() as u64, ended.into(), 0, 0, 0]
         }),
         answer,

@@ -24,7 +24,7 @@ use Rattle.face_state.specs.declared.Held.{Held}
 use Rattle.face_state.specs.declared.rehearsals.HeldRehearsal.{HeldRehearsal}
 use Rattle.face_state.proofs.Parts.{past, inside, drop-past}
 use Rattle.face_state.proofs.Within.{within-length, not-as-many}
-use Rattle.face_state.proofs.StateWords.{bits-length, is-state, no-state}
+use Rattle.face_state.proofs.StateWords.{bits-length, is-state, no-state, state-length}
 use Rattle.face_state.proofs.Back.{InRange, state-back, words-of}
 
 -- ---- one front
@@ -186,6 +186,10 @@ module _ (ws : List ℕ) (r : Rehearsal) (e : rehearsalIn ws ≡ some r) where
       ∙ sym (narrow-words (stateAt wide) (sized-at wide (within-length wide limits they-fit)))
       ∙ ap narrowed (words-of wide they-fit)
       ∙ narrow-wide ws words-many
+
+-- no words are a state and a rehearsal
+pub never-both : (ws : List ℕ) (s : State) (r : Rehearsal) → some s ≡ stateIn ws → rehearsalIn ws ≡ some r → ⊥
+never-both ws s r e f = omega (arith, state-length ws e, words-many ws r f)
 
 -- ---- what the code has of words
 

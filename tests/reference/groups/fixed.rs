@@ -1,6 +1,6 @@
 //! Groups that go over a fixed set of cases.
 
-use super::made::{begin_on, on_state};
+use super::made::{begin_on, on_rehearsal, on_state};
 use crate::calls::{Call, Name};
 use crate::inputs::{self, Rng};
 use crate::Harness;
@@ -8,6 +8,7 @@ use face::raw;
 use reference::campaign::{ERRORS, STANDING, WORDS};
 use reference::list::{at, count_of};
 use reference::plan::{Leg, Plan};
+use reference::rehearsal::REHEARSAL_WORDS;
 use reference::told;
 use std::ptr::{null, null_mut};
 
@@ -74,7 +75,7 @@ pub fn null_pointers(h: &mut Harness) {
         (call(&mut answer), answer)
     }
     const LINE: [u64; 4] = [4, 5, 0, 0];
-    let calls: [(&str, Made, Made); 15] = [
+    let calls: [(&str, Made, Made); 16] = [
         ("check", |a| unsafe { raw::jidrofex_check(null(), 0, a.as_mut_ptr()) }, |a| told::check(&[], a)),
         ("check_panel", |a| unsafe { raw::jidrofex_check_panel(null(), 0, a.as_mut_ptr()) }, |a| told::check_panel(&[], a)),
         ("rank", |a| unsafe { raw::jidrofex_rank(null(), 0, a.as_mut_ptr()) }, |a| told::rank(&[], a)),
@@ -88,6 +89,7 @@ pub fn null_pointers(h: &mut Harness) {
         ("read_line", |a| unsafe { raw::jidrofex_read_line(null(), 0, 0, a.as_mut_ptr()) }, |a| told::read_line(&[], 0, a)),
         ("read_line", |a| unsafe { raw::jidrofex_read_line(null(), 0, usize::MAX, a.as_mut_ptr()) }, |a| told::read_line(&[], usize::MAX, a)),
         ("begin", |a| unsafe { raw::jidrofex_begin(null(), 0, null_mut(), 0, a.as_mut_ptr()) }, |a| told::begin(&[], &mut [], a)),
+        ("rehearse", |a| unsafe { raw::jidrofex_rehearse(null(), 0, null_mut(), 0, a.as_mut_ptr()) }, |a| told::rehearse(&[], &mut [], a)),
         ("report", |a| unsafe { raw::jidrofex_report(null_mut(), 0, 0, a.as_mut_ptr()) }, |a| told::report(&mut [], 0, a)),
         ("request", |a| unsafe { raw::jidrofex_request(null_mut(), 0, null_mut(), 0, a.as_mut_ptr()) }, |a| told::request(&mut [], &mut [], a)),
     ];
@@ -95,20 +97,26 @@ pub fn null_pointers(h: &mut Harness) {
         let wanted = told_of(reference);
         h.compare_made(&format!("{name} with null pointers"), wanted.0, told_of(library), wanted);
     }
-    let begun = h.compare(Call::on_both(Name::Begin, b"ports=2\nlegs=1\nstart=0\nrun=0\n".to_vec(), vec![0; WORDS])).words;
-    type OnState = unsafe extern "C" fn(*mut u64, usize, *mut u8, usize, *mut u64) -> u8;
-    let on_state: [(&str, OnState); 2] = [("request", raw::jidrofex_request), ("orders", raw::jidrofex_orders)];
-    for (name, call) in on_state {
-        for (words, wanted) in [(WORDS, 2), (0, 15)] {
-            let (mut state, mut answer) = (begun.clone(), [u64::MAX; 5]);
-            let lent = if words == 0 { null_mut() } else { state.as_mut_ptr() };
+    let plan = b"ports=2\nlegs=1\nstart=0\nrun=0\n".to_vec();
+    let state = h.compare(Call::on_both(Name::Begin, plan.clone(), vec![0; WORDS])).words;
+    let rehearsal = h.compare(Call::on_both(Name::Rehearse, plan, vec![0; REHEARSAL_WORDS])).words;
+    type OnWords = unsafe extern "C" fn(*mut u64, usize, *mut u8, usize, *mut u64) -> u8;
+    let on_words: [(&str, OnWords, &Vec<u64>); 2] = [("request", raw::jidrofex_request, &state), ("orders", raw::jidrofex_orders, &rehearsal)];
+    for (name, call, first) in on_words {
+        for (words, wanted) in [(first.len(), 2), (0, 15)] {
+            let (mut left, mut answer) = (first.clone(), [u64::MAX; 5]);
+            let lent = if words == 0 { null_mut() } else { left.as_mut_ptr() };
             let number = unsafe { call(lent, words, null_mut(), 0, answer.as_mut_ptr()) };
-            h.compare_made(&format!("{name} on {words} words with a null buffer"), wanted, (number, answer, &state), (wanted, [0; 5], &begun));
+            h.compare_made(&format!("{name} on {words} words with a null buffer"), wanted, (number, answer, &left), (wanted, [0; 5], first));
         }
     }
-    let (mut state, mut answer) = (begun, [u64::MAX; 5]);
-    let number = unsafe { raw::jidrofex_begin(null(), 0, state.as_mut_ptr(), WORDS, answer.as_mut_ptr()) };
-    h.compare_made("begin with a null text", 11, (number, answer, state), (11, [1, 0, 0, 0, 0], vec![0; WORDS]));
+    type OnText = unsafe extern "C" fn(*const u8, usize, *mut u64, usize, *mut u64) -> u8;
+    let on_text: [(&str, OnText, Vec<u64>); 2] = [("begin", raw::jidrofex_begin, state), ("rehearse", raw::jidrofex_rehearse, rehearsal)];
+    for (name, call, mut words) in on_text {
+        let (many, mut answer) = (words.len(), [u64::MAX; 5]);
+        let number = unsafe { call(null(), 0, words.as_mut_ptr(), many, answer.as_mut_ptr()) };
+        h.compare_made(&format!("{name} with a null text"), 11, (number, answer, words), (11, [1, 0, 0, 0, 0], vec![0; many]));
+    }
 }
 
 /// Errors at their limit: a standing mark with 65,533 errors and up, each report twice over, and the request between.
@@ -150,12 +158,40 @@ pub fn words(h: &mut Harness) {
         for length in [0, 1, 60, 62, 122, 317] {
             let mut other = state.to_vec();
             other.resize(length, 0);
-            for name in [Name::Request, Name::Report { kind: 0 }, Name::Orders, Name::Begin] {
+            for name in [Name::Request, Name::Report { kind: 0 }, Name::Begin] {
                 h.compare(Call::on_both(name, b"ports=2\nlegs=1\nstart=0\nrun=0\n".to_vec(), other.clone()));
             }
         }
         for name in [Name::Request, Name::Report { kind: 3 }, Name::Report { kind: 0 }] {
             h.compare(Call::on_both(name, vec![0; 45], state.to_vec()));
+        }
+    }
+}
+
+/// The same of the 57 words of rehearsals; and the calls of a campaign on them, and those of a rehearsal on a state's.
+pub fn rehearsal_words(h: &mut Harness) {
+    let mut rng = Rng::of(h.seed, "words of rehearsals", 0);
+    for _ in 0..30 {
+        let rehearsal = inputs::rehearsed(&mut rng).to_words();
+        for place in 0..REHEARSAL_WORDS {
+            let old = rehearsal[place];
+            for value in [old, old.wrapping_add(1), old.wrapping_sub(1), 0, 256, old.wrapping_add(256), old ^ (1 << 32), old ^ (1 << 63), u64::MAX] {
+                let mut changed = rehearsal.to_vec();
+                changed[place] = value;
+                on_rehearsal(h, &mut rng, changed);
+            }
+        }
+        for length in [0, 1, 56, 58, WORDS, 317] {
+            let mut other = rehearsal.to_vec();
+            other.resize(length, 0);
+            for name in [Name::Orders, Name::Rehearse] {
+                h.compare(Call::on_both(name, b"ports=2\nlegs=1\nstart=0\nrun=0\n".to_vec(), other.clone()));
+            }
+        }
+        let state = inputs::reached(&mut rng).to_words();
+        h.compare(Call::on_both(Name::Orders, vec![0; 90], state.to_vec()));
+        for name in [Name::Request, Name::Report { kind: 0 }, Name::Report { kind: 3 }] {
+            h.compare(Call::on_both(name, vec![0; 45], rehearsal.to_vec()));
         }
     }
 }

@@ -1,7 +1,8 @@
-//! States: reached by calls, one step away from those, and by chance.
+//! States and rehearsals: reached by calls, one step away from those, and by chance.
 
 use super::{pattern, permutation, plan, ports, rank, run, short_plan, wide, Rng};
 use reference::campaign::{State, COVERED, ENDED, ERRORS, LEG, LEGS, OPEN, PANEL, PORTS, RUNS, STANDING, STARTS, STEP, WORDS};
+use reference::rehearsal::{Rehearsal, REHEARSAL_ENDED, REHEARSAL_WORDS};
 use reference::list::{apply, place, count_of, difference, Move};
 
 /// A state that calls on an accepted plan leave: at any leg and step, with any reports before it, at each of the moments that there are.
@@ -110,5 +111,19 @@ pub fn random_state(rng: &mut Rng) -> Vec<u64> {
     words[ERRORS] = rng.pick(&[0, 1, 65_534, 65_535, 65_536, 131_071, u64::MAX]);
     words[STANDING] = rng.pick(&[0, 0, 0, 1, 2]);
     words[ENDED] = rng.pick(&[0, 0, 0, 1, 256]);
+    words
+}
+
+/// The rehearsal at the moment of a reached state: one that calls leave, but for the way there.
+pub fn rehearsed(rng: &mut Rng) -> Rehearsal {
+    let State { plan, panel, leg, step, ended, .. } = reached(rng);
+    Rehearsal { plan, panel, leg, step, ended }
+}
+
+/// A rehearsal of words taken by chance: those of such a state without the four of its counts.
+pub fn random_rehearsal(rng: &mut Rng) -> Vec<u64> {
+    let state = random_state(rng);
+    let mut words = state[..REHEARSAL_WORDS].to_vec();
+    words[REHEARSAL_ENDED] = state[ENDED];
     words
 }
