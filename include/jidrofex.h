@@ -131,6 +131,10 @@ uint8_t jidrofex_request(uint64_t *state, size_t words, uint8_t *buffer, size_t 
 /* What the bench says of the standing mark. Gives nothing. */
 uint8_t jidrofex_report(uint64_t *state, size_t words, uint8_t kind, uint64_t answer[5]);
 
+/* Going on after a power cut: the saved state with the panel as it was read back put in. Refused with the panel's own numbers (1, 3, 4), then with 15: words
+ * that are no state, a panel of other ports than the state's, a panel with which the state is unfit. Gives nothing. */
+uint8_t jidrofex_resume(uint64_t *state, size_t words, const uint8_t *panel, size_t ports, uint64_t answer[5]);
+
 /* ---- a rehearsal: every line of a plan, with no robot and no report */
 
 /* The rehearsal of the plan that the text is, at its first moment. A refused text leaves it all zeros; words of the wrong number are refused (15) before the

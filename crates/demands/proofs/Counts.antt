@@ -3,25 +3,34 @@
 use mathlib.Core.Path.{_≡_, refl, sym, ap, _∙_}
 use mathlib.Core.Bool.{Bool, true, false, cond}
 use mathlib.Core.List.{List}
+use mathlib.Core.Option.{none}
 use Prim.Native.Nat.{ℕ, zero, suc, _+_}
 use native.Mathlib.Omega.{arith}
 use lib.Dec.{ltb}
 use lib.ListN.{length, take, drop, length-append, take-append-drop}
 use Rattle.listing.proofs.Numbers.{either, test}
+use Rattle.listing.specs.Limits.{mostPorts}
+use Rattle.words.specs.Told.{Told, accepted, refused, leaves}
+use Rattle.words.proofs.Told.{then-accepted}
+use Rattle.words.proofs.Padded.{padded-length}
+use Rattle.pattern_check.specs.Calls.{checkAs}
 use Rattle.promise.specs.Campaign as model
 use Rattle.promise.specs.Campaign.{Setting, Call, request, report, reportOf, tallied, Answer, movement, mark, theEnd, taken, refusal, placed, here, closed, heard}
 use Rattle.campaign_state.specs.State.{settingOf, momentOf}
 use Rattle.campaign_state.specs.declared.State.{State}
 use Rattle.campaign_state.proofs.Places.{Sized}
 use Rattle.campaign.specs.Calls.{answerOf, after, leftOf, toldOf}
+use Rattle.campaign_onward.specs.Calls.{panelIn, fitTold, resumeOf, resumedOf, goesOn}
+use Rattle.campaign_onward.proofs.Resumes.{few-ports}
 use Rattle.campaign_reached.proofs.Kept.{after-length}
-use Rattle.face_state.specs.States.{coveredPlace, stateAt, within, limits, word}
+use Rattle.face_state.specs.States.{coveredPlace, stateAt, stateIn, within, limits, word}
 use Rattle.face_state.proofs.Within.{within-length}
 use Rattle.face_state.proofs.StateWords.{last-word, is-state, no-state}
 use Rattle.face_state.proofs.RehearsalWords.{sized-at}
-use Rattle.face_laws.specs.Calls.{states, toldBy, calledTold, calledWords}
+use Rattle.face_laws.specs.Calls.{states, toldBy, calledTold, calledWords, leftIn, resumeTold, resumeWords}
 use Rattle.face_laws.proofs.OnState.{on-told, off-told, off-left}
 use Rattle.face_laws.proofs.Stays.{called-left}
+use Rattle.face_laws.proofs.Resumes.{resume-left}
 use Rattle.demands.specs.Counts.{raised, raisedBy, OnlyReportsRaise}
 
 -- ---- a state
@@ -104,11 +113,53 @@ words-covered c ws =
     let left : word (calledWords c ws) coveredPlace ≡ word ws coveredPlace = ap (λ x. word x coveredPlace) (sym (off-left states ws no (toldBy c) (leftOf c))) in
     omega (arith, told, left))
 
+-- ---- going on
+
+resumed-covered : (s : State) (p : List ℕ) → resumedOf s p .covered ≡ s .covered
+unfolding resumedOf
+resumed-covered s p = by (resumeOf s p)
+  where
+    by : (t : Told (Unit {0})) → goesOn t (panelIn p s) s .covered ≡ s .covered
+    by (accepted x) = refl
+    by (refused k q) = refl
+
+-- it leaves as many places
+sized-resumed : (s : State) (p : List ℕ) → Sized s → (t : Told (Unit {0})) → resumeOf s p ≡ t → Sized (goesOn t (panelIn p s) s)
+unfolding resumeOf
+sized-resumed s p z (refused k q) e = z
+sized-resumed s p z (accepted x) e = record {
+  starts = z .starts;
+  runs = z .runs;
+  panel = padded-length mostPorts 0 p (few-ports p (sym (then-accepted (checkAs false mostPorts p) (λ y. fitTold s p) x e .taken)));
+}
+
+-- and words that are no state as they were
+none-left : (p ws : List ℕ) → none ≡ stateIn ws → resumeWords p ws ≡ ws
+unfolding resumeWords
+none-left p ws e = by (resumeTold p ws)
+  where
+    by : (t : Told (Unit {0})) → leaves t (leftIn states (panelIn p) (stateIn ws) ws) ws ≡ ws
+    by (accepted x) = ap (λ o. leftIn states (panelIn p) o ws) (sym e)
+    by (refused k q) = refl
+
+resumed-words : (p ws : List ℕ) → word (resumeWords p ws) coveredPlace ≡ word ws coveredPlace
+unfolding resumedOf
+resumed-words p ws =
+    either (test (within ws limits))
+    (λ t.
+    let s = stateAt ws in
+    ap (λ x. word x coveredPlace) (sym (resume-left p ws (is-state ws t s refl) refl))
+    ∙ last-word (resumedOf s p) (sized-resumed s p (sized-at ws (within-length ws limits t)) (resumeOf s p) refl) coveredPlace (omega arith)
+    ∙ resumed-covered s p)
+    (λ t. ap (λ x. word x coveredPlace) (none-left p ws (no-state ws t)))
+
 -- ---- all of them
 
 pub only-reports-raise : OnlyReportsRaise
 only-reports-raise = record {
   state = left-covered;
   first = λ t. refl;
+  resumed = resumed-covered;
   words = words-covered;
+  resumedWords = resumed-words;
 }

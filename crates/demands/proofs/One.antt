@@ -37,6 +37,7 @@ use Rattle.campaign.proofs.Moments.{refusal-leaves}
 use Rattle.campaign.proofs.Tells.{bytes-stay}
 use Rattle.printing.specs.Rehearsals.{stateOf}
 use Rattle.printing.specs.declared.Rehearsal.{Rehearsal}
+use Rattle.campaign_onward.specs.Calls.{panelIn, fitTold, resumeOf, resumedOf, goesOn}
 use Rattle.printing.proofs.Refused.{refused-first, rehearsal-stays, bytes-stay as line-bytes-stay}
 use Rattle.plan_rules.specs.Planned.{device}
 use Rattle.demands.specs.One.{OneOf, Refuses, RefusesAs, DemandOne}
@@ -187,6 +188,22 @@ state-kept c s k e = ap (λ a. calls.after c a s) e ∙ sym (refusal-leaves c k 
 pub buffer-kept : (s : State) (buf : List ℕ) (k : ℕ) → answerOf (request (length buf)) s ≡ refusal k → bytesOf s buf ≡ buf
 buffer-kept s buf k e = sym (bytes-stay s buf k e)
 
+-- ---- going on after a power cut
+
+abbrev ofResume : List ℕ
+ofResume = 1 ∷ 3 ∷ 4 ∷ 15 ∷ []
+
+resume-numbers : (s : State) (p : List ℕ) → Refuses ofResume (resumeOf s p)
+unfolding resumeOf fitTold
+resume-numbers s p =
+    from-then ofResume (checkAs false mostPorts p) _
+    (λ k q e. either (check-panel-numbers p k q e) inl (λ h. either h (λ x. inr (inl x)) (λ h. either h (λ x. inr (inr (inl x))) absurd)))
+    (λ x. from-cond ofResume _ _ _ (from-accepted ofResume tt) (from-refused ofResume 15 nowhere (inr (inr (inr (inl refl))))))
+
+resume-kept : (s : State) (p : List ℕ) (k : ℕ) (q : Spot) → resumeOf s p ≡ refused k q → resumedOf s p ≡ s
+unfolding resumedOf
+resume-kept s p k q e = ap (λ x. goesOn x (panelIn p s) s) e
+
 -- ---- demand one
 
 pub demand-one : DemandOne
@@ -213,6 +230,8 @@ demand-one = record {
   reported = report-numbers;
   stateKeeps = state-kept;
   bufferKeeps = buffer-kept;
+  resume = resume-numbers;
+  resumeKeeps = resume-kept;
   rehearse = λ t. from-then ofPlan _ _ (plan-numbers device 1 t) (λ p. from-accepted ofPlan tt);
   fill = λ room r k p e. rehearsal-numbers room r k (refused-first room (stateOf r) k p e);
   fillKeeps = rehearsal-stays;

@@ -86,6 +86,7 @@ each-call-one = record {
   faceBegin = one-by face-campaign.begin-says (λ κs a r s e f. face.only-begin _ _ _ _);
   faceRequest = one-by face-campaign.request-says (λ κs (state, (buf, _)) r s e f. face.only-request (now state) (now buf) _ _);
   faceReport = one-by face-campaign.report-says (λ κs a r s e f. face.only-report _ _ _ _);
+  faceResume = one-by face-campaign.resume-says (λ κs (state, (panel, _)) r s e f. face.only-resume (now panel) (now state) _ _);
   faceRehearse = one-by face-campaign.rehearse-says (λ κs a r s e f. face.only-rehearse _ _ _ _);
   faceOrders = one-by face-campaign.orders-says (λ κs (rehearsal, (buf, _)) r s e f. face.only-orders (now rehearsal) (now buf) _ _);
 }

@@ -7,8 +7,9 @@ use Rattle.words.specs.Told.{Told, accepted, refused}
 use Rattle.promise.specs.Campaign.{Call, request, report, Answer, movement, mark, theEnd, taken, refusal}
 use Rattle.campaign_state.specs.declared.State.{State}
 use Rattle.campaign.specs.Calls.{answerOf, leftOf, begunOf}
+use Rattle.campaign_onward.specs.Calls.{resumedOf}
 use Rattle.face_state.specs.States.{coveredPlace, word}
-use Rattle.face_laws.specs.Calls.{calledTold, calledWords}
+use Rattle.face_laws.specs.Calls.{calledTold, calledWords, resumeWords}
 
 -- what a report that is taken adds to covered, by its kind: 0 is that the traffic ran
 abbrev pub ranAdds : ℕ → ℕ
@@ -37,7 +38,11 @@ raisedBy c (refused k p) = 0
 pub record OnlyReportsRaise : Type 0 where
   -- a request or a report
   pub state : (c : Call) (s : State) → leftOf c s .covered ≡ raised c (answerOf c s) + s .covered
+  -- going on after a power cut
+  pub resumed : (s : State) (p : List ℕ) → resumedOf s p .covered ≡ s .covered
   -- the beginning
   pub first : (t : List ℕ) → begunOf t .covered ≡ 0
   -- the same of the words for C: jidrofex_request and jidrofex_report
   pub words : (c : Call) (ws : List ℕ) → word (calledWords c ws) coveredPlace ≡ raisedBy c (calledTold c ws) + word ws coveredPlace
+  -- and jidrofex_resume
+  pub resumedWords : (p ws : List ℕ) → word (resumeWords p ws) coveredPlace ≡ word ws coveredPlace

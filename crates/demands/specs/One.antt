@@ -21,6 +21,7 @@ use Rattle.promise.specs.Campaign.{Answer, refusal, Call, request, report}
 use Rattle.campaign_state.specs.declared.State.{State}
 use Rattle.campaign.specs.Calls.{answerOf, leftOf, bytesOf}
 use Rattle.printing.specs.Printing.{linesIn}
+use Rattle.campaign_onward.specs.Calls.{resumeOf, resumedOf}
 use Rattle.printing.specs.Rehearsals.{rehearsalOf, stateOf}
 use Rattle.printing.specs.Answers.{fillOf, fillBytes}
 use Rattle.printing.specs.declared.Rehearsal.{Rehearsal}
@@ -69,6 +70,9 @@ pub record DemandOne : Type 0 where
   pub reported : (kind : ℕ) (s : State) → RefusesAs (15 ∷ 14 ∷ 12 ∷ 16 ∷ []) (answerOf (report kind) s)
   pub stateKeeps : (c : Call) (s : State) (k : ℕ) → answerOf c s ≡ refusal k → leftOf c s ≡ s
   pub bufferKeeps : (s : State) (buf : List ℕ) (k : ℕ) → answerOf (request (length buf)) s ≡ refusal k → bytesOf s buf ≡ buf
+  -- ---- going on after a power cut: the panel's own numbers, then 15
+  pub resume : (s : State) (p : List ℕ) → Refuses (1 ∷ 3 ∷ 4 ∷ 15 ∷ []) (resumeOf s p)
+  pub resumeKeeps : (s : State) (p : List ℕ) (k : ℕ) (q : Spot) → resumeOf s p ≡ refused k q → resumedOf s p ≡ s
   -- ---- lines in bulk: the plan's numbers for its text; no mark stands in a rehearsal, so 15 and then 2
   pub rehearse : (t : List ℕ) → Refuses (11 ∷ 7 ∷ 8 ∷ 1 ∷ 9 ∷ 6 ∷ 10 ∷ []) (then (readPlanOf t) (λ p. accepted (tt {0})))
   pub fill : (room : ℕ) (r : Rehearsal) → Refuses (15 ∷ 2 ∷ []) (fillOf room (stateOf r))

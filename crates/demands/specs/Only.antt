@@ -48,6 +48,7 @@ use Rattle.face_lines.proofs.jidrofex_read_line.Reads as face-read-line
 use Rattle.face_campaign.proofs.jidrofex_begin.Reads as face-begin
 use Rattle.face_campaign.proofs.jidrofex_request.Reads as face-request
 use Rattle.face_campaign.proofs.jidrofex_report.Reads as face-report
+use Rattle.face_campaign.proofs.jidrofex_resume.Reads as face-resume
 use Rattle.face_campaign.proofs.jidrofex_rehearse.Reads as face-rehearse
 use Rattle.face_campaign.proofs.jidrofex_orders.Reads as face-orders
 
@@ -112,5 +113,6 @@ pub record EachCallOne : Type 0 where
   pub faceBegin : One face-begin.Learnt (λ κs r (_, (state, (answer, _))). result r (now answer) (now state ∷ []))
   pub faceRequest : One face-request.Learnt (λ κs r (state, (buf, (answer, _))). result r (now answer) (now state ∷ now buf ∷ []))
   pub faceReport : One face-report.Learnt (λ κs r (state, (_, (answer, _))). result r (now answer) (now state ∷ []))
+  pub faceResume : One face-resume.Learnt (λ κs r (state, (_, (answer, _))). result r (now answer) (now state ∷ []))
   pub faceRehearse : One face-rehearse.Learnt (λ κs r (_, (rehearsal, (answer, _))). result r (now answer) (now rehearsal ∷ []))
   pub faceOrders : One face-orders.Learnt (λ κs r (rehearsal, (buf, (answer, _))). result r (now answer) (now rehearsal ∷ now buf ∷ []))

@@ -10,10 +10,11 @@ use Rattle.face_values.specs.Answers.{nothing}
 use Rattle.face_values.specs.Only.{Meets, result}
 use Rattle.face_values.proofs.Meets.{meets-leaving, meets-leaving-both}
 use Rattle.face_laws.specs.Values.{orderAndBytes, bytesAndEnd}
-use Rattle.face_laws.specs.Calls.{calledTold, calledWords, requestBytes, beginTold, beginWords, rehearseTold, rehearseWords, ordersTold, ordersWords, ordersBytes}
+use Rattle.face_laws.specs.Calls.{calledTold, calledWords, requestBytes, beginTold, beginWords, resumeTold, resumeWords, rehearseTold, rehearseWords, ordersTold, ordersWords, ordersBytes}
 use Rattle.face_campaign.proofs.jidrofex_begin.Reads as begin
 use Rattle.face_campaign.proofs.jidrofex_request.Reads as request
 use Rattle.face_campaign.proofs.jidrofex_report.Reads as report
+use Rattle.face_campaign.proofs.jidrofex_resume.Reads as resume
 use Rattle.face_campaign.proofs.jidrofex_rehearse.Reads as rehearse
 use Rattle.face_campaign.proofs.jidrofex_orders.Reads as orders
 
@@ -37,6 +38,12 @@ pub report-says : Says report.Learnt
     let c = model.report kind in
     Meets nothing (calledTold c (now state)) (calledWords c (now state) ∷ []) (result r (now answer) (now left ∷ [])))
 report-says κs a r e h = meets-leaving h
+
+-- jidrofex_resume(state: &mut [u64], panel: &[u8], answer: &mut [u64; 5]) -> u8
+pub resume-says : Says resume.Learnt
+    (λ κs (state, (panel, _)) r (left, (_, (answer, _))).
+    Meets nothing (resumeTold (now panel) (now state)) (resumeWords (now panel) (now state) ∷ []) (result r (now answer) (now left ∷ [])))
+resume-says κs a r e h = meets-leaving h
 
 -- jidrofex_rehearse(text: &[u8], rehearsal: &mut [u64], answer: &mut [u64; 5]) -> u8
 pub rehearse-says : Says rehearse.Learnt
