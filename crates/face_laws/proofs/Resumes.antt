@@ -15,7 +15,7 @@ use Rattle.campaign_state.specs.declared.State.{State}
 use Rattle.campaign_onward.specs.Calls.{panelIn, fitTold, resumeOf, goesOn}
 use Rattle.face_state.specs.States.{stateWords, stateIn}
 use Rattle.face_state.proofs.Back.{words-back}
-use Rattle.face_laws.specs.Calls.{states, leftIn, resumeTold, resumeWords}
+use Rattle.face_laws.specs.Calls.{states, onWords, leftIn, resumeTold, resumeWords}
 use Rattle.face_laws.proofs.OnState.{on-told, off-told}
 
 -- ---- words that are a state
@@ -41,12 +41,12 @@ module _ (p ws : List ℕ) (e : none ≡ stateIn ws) where
   pub resume-panel : (f : Refusal) → refusalOf f ≡ checkAs false mostPorts p → (refusalOf f ≡ resumeTold p ws) × (ws ≡ resumeWords p ws)
   unfolding resumeTold resumeWords
   resume-panel f h =
-      let told : refusalOf f ≡ resumeTold p ws = ap (λ x. then x _) h in
+      let told : refusalOf f ≡ resumeTold p ws = ap (λ x. then x (λ y. onWords states (λ (t : State). fitTold t p) ws)) h in
       (told, ap (λ t. leaves t (leftIn states (panelIn p) (stateIn ws) ws) ws) told)
 
   -- on a panel that is one
   pub resume-none : accepted tt ≡ checkAs false mostPorts p → (refused 15 nowhere ≡ resumeTold p ws) × (ws ≡ resumeWords p ws)
   unfolding resumeTold resumeWords
   resume-none h =
-      let told : refused 15 nowhere ≡ resumeTold p ws = off-told states ws e (λ (t : State). fitTold t p) ∙ ap (λ x. then x _) h in
+      let told : refused 15 nowhere ≡ resumeTold p ws = off-told states ws e (λ (t : State). fitTold t p) ∙ ap (λ x. then x (λ y. onWords states (λ (t : State). fitTold t p) ws)) h in
       (told, ap (λ t. leaves t (leftIn states (panelIn p) (stateIn ws) ws) ws) told)
