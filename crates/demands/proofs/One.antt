@@ -7,13 +7,13 @@ use mathlib.Core.Bool.{Bool, true, false, not, _&&_, true≢false}
 use mathlib.Core.List.{List, [], _∷_}
 use mathlib.Core.Option.{Option, none, some}
 use Prim.Native.Nat.{ℕ}
-use lib.Dec.{leb, ltb}
+use lib.Dec.{eqb, leb, ltb}
 use lib.ListN.{length, drop}
 use Rattle.listing.specs.Orders.{Order}
 use Rattle.listing.specs.Limits.{mostPorts, largest64}
 use Rattle.listing.specs.Count.{count}
 use Rattle.listing.proofs.Numbers.{either}
-use Rattle.words.specs.Told.{Told, nowhere, accepted}
+use Rattle.words.specs.Told.{Told, Spot, nowhere, accepted, refused}
 use Rattle.words.specs.declared.Line.{Line}
 use Rattle.pattern_check.specs.Faults.{Fault, sound, outside, repeated, ownJack, faultOf, faultTold}
 use Rattle.pattern_check.specs.Calls.{checkAs, checkOf}
@@ -29,7 +29,7 @@ use Rattle.line_format.specs.Reading.{fitting, numbersIn, numbersTold, keyed, l
 use Rattle.promise.specs.Campaign.{Setting, refusal, Call, request, report, reportOf, isError, todo, next, offer, answer}
 use Rattle.promise.specs.Campaign as model
 use Rattle.campaign_state.specs.State.{settingOf, momentOf}
-use Rattle.campaign_state.specs.Fitness.{placesFit}
+use Rattle.campaign_state.specs.Fitness.{placesFit, fit}
 use Rattle.campaign_state.specs.declared.State.{State}
 use Rattle.campaign.specs.Calls as calls
 use Rattle.campaign.specs.Calls.{answerOf, leftOf, bytesOf}
@@ -198,7 +198,7 @@ unfolding resumeOf fitTold
 resume-numbers s p =
     from-then ofResume (checkAs false mostPorts p) _
     (λ k q e. either (check-panel-numbers p k q e) inl (λ h. either h (λ x. inr (inl x)) (λ h. either h (λ x. inr (inr (inl x))) absurd)))
-    (λ x. from-cond ofResume _ _ _ (from-accepted ofResume tt) (from-refused ofResume 15 nowhere (inr (inr (inr (inl refl))))))
+    (λ x. from-cond ofResume (eqb (length p) (s .plan .ports) && fit (panelIn p s)) _ _ (from-accepted ofResume tt) (from-refused ofResume 15 nowhere (inr (inr (inr (inl refl))))))
 
 resume-kept : (s : State) (p : List ℕ) (k : ℕ) (q : Spot) → resumeOf s p ≡ refused k q → resumedOf s p ≡ s
 unfolding resumedOf

@@ -46,7 +46,8 @@ use Rattle.campaign_reached.proofs.Kept.{Kept, turns-model, left-so, left-model
 use Rattle.campaign_reached.proofs.Own.{own, own-reached}
 use Rattle.campaign_reached.proofs.Reached.{Reached, reached-left}
 use Rattle.face_state.specs.States.{stateIn}
-use Rattle.face_reached.proofs.Read.{Read}
+use Rattle.face_reached.proofs.InRange.{words-hold}
+use Rattle.face_reached.proofs.Read.{Read, read-own}
 use Rattle.demands.specs.Robot.{robotActs}
 use Rattle.demands.specs.Words.{wordsAfter, momentIn, turnsIn, robotIn}
 use Rattle.demands.proofs.Bytes.{sees-from}
@@ -79,14 +80,18 @@ module _ (s : State) (z : Sized s) (f : fit s ≡ true) where
     onward-bytes = rw (sees-from P cs s R) onward-left
 
 -- of the calls for C, on any words of a state that is fit
-pub onward-words : (ws : List ℕ) (s : State) (z : Sized s) (f : fit s ≡ true) → Read (own s z f) ws s → (cs : List Called)
+pub onward-words : (ws : List ℕ) (s : State) → stateIn ws ≡ some s → fit s ≡ true → (cs : List Called)
     → let C = settingOf s in
     Onward C (momentIn ws .panel) (momentIn ws) (pastOf C (momentIn ws)) (turnsIn cs ws) (robotIn cs ws) (momentIn (wordsAfter cs ws))
-onward-words ws s z f r cs =
-    let P = own s z f in
+onward-words ws s e f cs =
+    let z : Sized s = words-hold ws s e .sized in
+    let P : AcceptedPlan = own s z f in
+    let r : Read P ws s = read-own ws s e f in
     let here : momentIn ws ≡ momentOf s = moment-read P ws s r in
     let left : momentIn (wordsAfter cs ws) ≡ momentOf (leftAfter cs s) = moment-read P (wordsAfter cs ws) (leftAfter cs s) (after-read P cs ws s r) in
-    rw (here, turns-read P cs ws s r, robot-read P cs ws s r, left) (onward-bytes s z f cs)
+    let C = settingOf s in
+    subst (λ m. Onward C (m .panel) m (pastOf C m) (turnsIn cs ws) (robotIn cs ws) (momentIn (wordsAfter cs ws))) (sym here)
+    (rw (turns-read P cs ws s r, robot-read P cs ws s r, left) (onward-bytes s z f cs))
 
 -- ---- a state is its plan, its moment, and zeros beyond the ports
 
@@ -154,10 +159,11 @@ module _ (s : State) (z : Sized s) (f : fit s ≡ true) (c : Call) where
   unfolding leftOf fit
   left-fit =
       let R = own-reached s z f in
-      let L = reached-left (own s z f) s R c in
-      (L,
-      record { starts = z .starts; runs = z .runs; panel = left-places s (R .kept) c ∙ z .panel },
-      and-eq-true-iff (placesFit (leftOf c s)) (model.fit (settingOf s) (momentOf (leftOf c s))) .1 (L .kept .fit, tells-fit (settingOf s) (momentOf (leftOf c s)) .1 (L .fit)))
+      let L = reached-left (own s z f) s R c in (
+        L,
+        record { starts = z .starts; runs = z .runs; panel = left-places s (R .kept) c ∙ z .panel },
+        and-eq-true-iff (placesFit (leftOf c s)) (model.fit (settingOf s) (momentOf (leftOf c s))) .1 (L .kept .fit, tells-fit (settingOf s) (momentOf (leftOf c s)) .1 (L .fit)),
+      )
 
   -- it goes on as the state before the call or as the one after it: no order is lost and none is done twice
   pub cut-resumed : (x : State) (q : List ℕ) → (x ≡ s) ⊎ (x ≡ leftOf c s) → (q ≡ momentOf s .panel) ⊎ (q ≡ momentOf (leftOf c s) .panel)

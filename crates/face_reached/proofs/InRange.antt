@@ -7,7 +7,7 @@ use mathlib.Core.Option.{some}
 use Prim.Native.Nat.{ℕ, zero, suc, _≤_, _<_}
 use native.Mathlib.Omega.{arith}
 use lib.IntN.{ℤ, pos}
-use lib.ListN.{length, getD, take, List·getD-eq-default}
+use lib.ListN.{length, getD, take, List·getD-map, List·getD-eq-default}
 use lib.Seq.{length-take-le, getD-take}
 use mir.Syntax.{w64}
 use mir.Val.{SFits}
@@ -40,8 +40,11 @@ use Rattle.campaign_reached.proofs.Begun.{plan-fits}
 use Rattle.campaign_reached.proofs.Kept.{Kept, left-places}
 use Rattle.campaign_reached.proofs.Reached.{Reached}
 use Rattle.face_state.proofs.Parts.{inside}
-use Rattle.face_state.specs.States.{stateWords, stateIn}
-use Rattle.face_state.proofs.Back.{InRange, state-back}
+use Rattle.face_state.specs.States.{startsPlace, runsPlace, runIn, stateWords, limits, within, wordsAt, stateIn}
+use Rattle.face_state.proofs.Within.{within-length}
+use Rattle.face_state.proofs.Runs.{run-fits}
+use Rattle.face_state.proofs.RehearsalWords.{sized-at}
+use Rattle.face_state.proofs.Back.{InRange, state-back, at-state, is-within, part-held}
 
 -- what the places of a state hold of its plan: so many of each, starts of 64 bits and signed runs of 64 bits
 pub record Holds (s : State) : Type 0 where
@@ -103,6 +106,20 @@ module _ (P : AcceptedPlan) where
         runs = all-places (SFits w64) mostLegs (pos 0) zs (record { sfits = omega arith }) (λ i b. each-run (count (p .ports)) (p .legs) (f .each) (omega arith) i);
       } in
       subst (λ r. Holds (firstState (heldOf mostLegs r))) (sym (P .accepts)) held
+
+-- ---- the state that words are
+
+-- words that are a state hold its plan
+pub words-hold : (ws : List ℕ) (s : State) → stateIn ws ≡ some s → Holds s
+unfolding runIn
+words-hold ws s e =
+    let fits : within ws limits ≡ true = is-within ws s e in
+    let part : (i : ℕ) → getD (wordsAt ws runsPlace mostLegs) i 0 ≤ largest64 = part-held ws fits runsPlace mostLegs in
+    subst Holds (at-state ws s e) (record {
+      sized = sized-at ws (within-length ws limits fits);
+      starts = part-held ws fits startsPlace mostLegs;
+      runs = λ i. subst (SFits w64) (sym (List·getD-map runIn (wordsAt ws runsPlace mostLegs) i 0)) (run-fits (getD (wordsAt ws runsPlace mostLegs) i 0) (part i));
+    })
 
 -- ---- what a call leaves
 

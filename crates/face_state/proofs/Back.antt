@@ -137,7 +137,7 @@ module _ (ws : List ℕ) (e : within ws limits ≡ true) where
       (λ high. omega (arith, List·getD-eq-default ws 0 {n = i} (omega (arith, many))))
 
   -- and so is each of a part
-  part-held : (at n i : ℕ) → word (wordsAt ws at n) i ≤ largest64
+  pub part-held : (at n i : ℕ) → word (wordsAt ws at n) i ≤ largest64
   part-held at n i =
       either (below? i n)
       (λ low. omega (arith, getD-take n (drop at ws) i 0 low, getD-drop at ws i 0, word-held (at + i)))
@@ -183,14 +183,14 @@ module _ (ws : List ℕ) (e : within ws limits ≡ true) where
 one-state : {s t : State} → some s ≡ some t → s ≡ t
 one-state e = cc
 
+-- words that are a state are within the limits
+pub is-within : (ws : List ℕ) (s : State) → stateIn ws ≡ some s → within ws limits ≡ true
+is-within ws s e = either (test (within ws limits)) (λ t. t) (λ t. absurd (none-some s (no-state ws t ∙ e)))
+
 -- the state that words are has the fields at their places
 pub at-state : (ws : List ℕ) (s : State) → stateIn ws ≡ some s → stateAt ws ≡ s
-at-state ws s e =
-    either (test (within ws limits)) (λ t. one-state (is-state ws t (stateAt ws) refl ∙ e)) (λ t. absurd (none-some s (no-state ws t ∙ e)))
+at-state ws s e = one-state (is-state ws (is-within ws s e) (stateAt ws) refl ∙ e)
 
 -- and its words are these words
 pub words-back : (ws : List ℕ) (s : State) → stateIn ws ≡ some s → stateWords s ≡ ws
-words-back ws s e =
-    either (test (within ws limits))
-    (λ t. ap stateWords (sym (at-state ws s e)) ∙ words-of ws t)
-    (λ t. absurd (none-some s (no-state ws t ∙ e)))
+words-back ws s e = ap stateWords (sym (at-state ws s e)) ∙ words-of ws (is-within ws s e)
