@@ -2,7 +2,7 @@
 
 use super::{begun, patterns, rehearsed};
 use face::Answer;
-use reference::campaign::STANDING;
+use reference::campaign::{PANEL, STANDING};
 use std::arch::asm;
 use std::ptr::{read_volatile, write_volatile};
 
@@ -83,6 +83,17 @@ fn for_report(lent: &mut Lent) {
     }
 }
 
+/// One call further on, and the state's own panel read back.
+fn for_resume(lent: &mut Lent) {
+    if lent.state[STANDING] == 1 {
+        for_request(lent);
+    } else {
+        face::request(&mut lent.state, &mut lent.buffer, &mut lent.answer);
+    }
+    let panel = &lent.state[PANEL..PANEL + lent.pattern.len()];
+    lent.pattern.copy_from_slice(&panel.iter().map(|&port| port as u8).collect::<Vec<_>>());
+}
+
 pub fn stack_table() {
     println!("\n## Stack\n");
     println!("The deepest stack seen of each call over 256 inputs of 20 ports, in bytes, the Rust frame that makes the call included.\n");
@@ -107,6 +118,7 @@ pub fn stack_table() {
     show("begin", deepest(nothing, |l| accepted(face::begin(plan, &mut l.state, &mut l.answer))));
     show("request", deepest(for_request, |l| accepted(face::request(&mut l.state, &mut l.buffer, &mut l.answer))));
     show("report", deepest(for_report, |l| accepted(face::report(&mut l.state, 0, &mut l.answer))));
+    show("resume", deepest(for_resume, |l| accepted(face::resume(&mut l.state, &l.pattern, &mut l.answer))));
     show("rehearse", deepest(nothing, |l| accepted(face::rehearse(plan, &mut l.rehearsal, &mut l.answer))));
     show("orders", deepest(nothing, |l| accepted(face::orders(&mut l.rehearsal, &mut l.buffer, &mut l.answer))));
 }

@@ -22,6 +22,7 @@ pub enum Name {
     Begin,
     Request,
     Report { kind: u8 },
+    Resume,
     Rehearse,
     Orders,
 }
@@ -89,6 +90,7 @@ pub struct Side {
     begin: fn(&[u8], &mut [u64], &mut Answer) -> u8,
     request: fn(&mut [u64], &mut [u8], &mut Answer) -> u8,
     report: fn(&mut [u64], u8, &mut Answer) -> u8,
+    resume: fn(&mut [u64], &[u8], &mut Answer) -> u8,
     rehearse: fn(&[u8], &mut [u64], &mut Answer) -> u8,
     orders: fn(&mut [u64], &mut [u8], &mut Answer) -> u8,
 }
@@ -114,6 +116,7 @@ macro_rules! side {
             begin: calls::begin,
             request: calls::request,
             report: calls::report,
+            resume: calls::resume,
             rehearse: calls::rehearse,
             orders: calls::orders,
         }
@@ -182,6 +185,7 @@ impl Side {
             Name::Begin => (self.begin)(bytes, words, answer),
             Name::Request => (self.request)(words, bytes, answer),
             Name::Report { kind } => (self.report)(words, kind, answer),
+            Name::Resume => (self.resume)(words, bytes, answer),
             Name::Rehearse => (self.rehearse)(bytes, words, answer),
             Name::Orders => (self.orders)(words, bytes, answer),
         };

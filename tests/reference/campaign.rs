@@ -1,4 +1,4 @@
-//! The campaign: its state, what makes a state fit (15), request, report, and the order printer.
+//! The campaign: its state, what makes a state fit (15), request, report, going on after a power cut, and the order printer.
 
 use crate::list::{check_panel, count_of, difference};
 use crate::panel::{carriage, obey, orders};
@@ -80,6 +80,17 @@ impl State {
         })
     }
 
+    /// The state that the words are but for its panel, or 15. The saved panel is not looked at and is read as zeros; but a word of it that is no byte is one
+    /// that its field cannot hold.
+    pub fn saved(words: &[u64]) -> Result<State, Refusal> {
+        if words.len() != WORDS || words[PANEL..LEG].iter().any(|&word| u8::try_from(word).is_err()) {
+            return Err(refusal(15));
+        }
+        let mut bare = words.to_vec();
+        bare[PANEL..LEG].fill(0);
+        State::read(&bare).ok_or(refusal(15))
+    }
+
     /// Row 15 of the paper's table, in its order.
     fn is_fit(&self) -> bool {
         let State { plan, leg, step, .. } = self;
@@ -155,6 +166,18 @@ impl State {
             after.step += 1;
         }
         Ok(after)
+    }
+
+    /// Going on after a power cut: the state with the panel as it was read back put in. The panel's own refusals first; then 15 for a panel of other ports than
+    /// the state's, and for a state that is unfit with that panel.
+    pub fn resume(&self, panel: &[u8]) -> Result<State, Refusal> {
+        check_panel(panel)?;
+        let after = State { panel: panel.to_vec(), ..self.clone() };
+        if panel.len() == self.plan.ports && after.is_fit() {
+            Ok(after)
+        } else {
+            Err(refusal(15))
+        }
     }
 }
 

@@ -22,7 +22,7 @@ const CASES: usize = 1_200_000;
 const LONG_CASES: usize = 40_000_000;
 const MOST_DIFFERENCES: usize = 10;
 /// From so many cases on, every group is large enough to meet the numbers that it must meet.
-const FULL: usize = 200_000;
+const FULL: usize = 300_000;
 
 /// What a group compared: how often each number came, and each kind of move or line.
 #[derive(Default)]

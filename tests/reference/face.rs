@@ -22,6 +22,7 @@ pub mod raw {
         pub fn jidrofex_begin(text: *const u8, bytes: usize, state: *mut u64, words: usize, answer: *mut u64) -> u8;
         pub fn jidrofex_request(state: *mut u64, words: usize, buffer: *mut u8, bytes: usize, answer: *mut u64) -> u8;
         pub fn jidrofex_report(state: *mut u64, words: usize, kind: u8, answer: *mut u64) -> u8;
+        pub fn jidrofex_resume(state: *mut u64, words: usize, panel: *const u8, ports: usize, answer: *mut u64) -> u8;
         pub fn jidrofex_rehearse(text: *const u8, bytes: usize, rehearsal: *mut u64, words: usize, answer: *mut u64) -> u8;
         pub fn jidrofex_orders(rehearsal: *mut u64, words: usize, buffer: *mut u8, bytes: usize, answer: *mut u64) -> u8;
     }
@@ -89,6 +90,10 @@ pub fn request(state: &mut [u64], buffer: &mut [u8], answer: &mut Answer) -> u8 
 
 pub fn report(state: &mut [u64], kind: u8, answer: &mut Answer) -> u8 {
     unsafe { raw::jidrofex_report(state.as_mut_ptr(), state.len(), kind, answer.as_mut_ptr()) }
+}
+
+pub fn resume(state: &mut [u64], panel: &[u8], answer: &mut Answer) -> u8 {
+    unsafe { raw::jidrofex_resume(state.as_mut_ptr(), state.len(), panel.as_ptr(), panel.len(), answer.as_mut_ptr()) }
 }
 
 pub fn rehearse(text: &[u8], rehearsal: &mut [u64], answer: &mut Answer) -> u8 {

@@ -24,7 +24,7 @@ pub struct Group {
     pub meets: &'static [u8],
 }
 
-pub const GROUPS: [Group; 32] = [
+pub const GROUPS: [Group; 34] = [
     Group { name: "count", work: Work::Whole(count), meets: &[0, 1] },
     Group { name: "circuits", work: Work::Whole(circuits), meets: &[0] },
     Group { name: "joins", work: Work::Whole(joins), meets: &[0] },
@@ -52,6 +52,8 @@ pub const GROUPS: [Group; 32] = [
     Group { name: "reached states", work: Work::Share(5, reached_states), meets: &[0, 2, 12, 13, 14, 16] },
     Group { name: "damaged states", work: Work::Share(8, damaged_states), meets: &[0, 12, 13, 15] },
     Group { name: "random states", work: Work::Share(3, random_states), meets: &[0, 12, 15] },
+    Group { name: "resume", work: Work::Share(6, resume), meets: &[0, 1, 3, 4, 15] },
+    Group { name: "cuts", work: Work::Share(8, cuts), meets: &[0, 2, 12, 13, 14] },
     Group { name: "rehearse", work: Work::Share(3, rehearse), meets: &[0, 1, 6, 7, 8, 9, 10, 11, 15] },
     Group { name: "orders", work: Work::Share(4, orders), meets: &[0, 2] },
     Group { name: "rehearsals", work: Work::Share(3, rehearsals), meets: &[0, 2, 15] },

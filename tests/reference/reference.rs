@@ -7,7 +7,7 @@
 //! - `panel`: look-ups and orders carried out
 //! - `text`: numbers and order lines
 //! - `plan`: the reading of plans
-//! - `campaign`: the state, its fitness, request, report, and the order printer
+//! - `campaign`: the state, its fitness, request, report, going on after a power cut, and the order printer
 //! - `rehearsal`: lines in bulk, with no counts
 //! - `told`: all of these as the calls of include/jidrofex.h, in numbers and slices
 

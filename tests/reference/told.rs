@@ -166,6 +166,18 @@ pub fn report(state: &mut [u64], kind: u8, answer: &mut Answer) -> u8 {
     )
 }
 
+/// 'Refused with the panel's own numbers (1, 3, 4), then with 15.'
+pub fn resume(state: &mut [u64], panel: &[u8], answer: &mut Answer) -> u8 {
+    let resumed = list::check_panel(panel).and_then(|()| State::saved(state)).and_then(|saved| saved.resume(panel));
+    tell(
+        resumed.map(|after| {
+            state.copy_from_slice(&after.to_words());
+            NOTHING
+        }),
+        answer,
+    )
+}
+
 /// 'A refused text leaves it all zeros; words of the wrong number are refused (15) before the text is looked at.'
 pub fn rehearse(text: &[u8], rehearsal: &mut [u64], answer: &mut Answer) -> u8 {
     if rehearsal.len() != REHEARSAL_WORDS {

@@ -75,7 +75,8 @@ pub fn null_pointers(h: &mut Harness) {
         (call(&mut answer), answer)
     }
     const LINE: [u64; 4] = [4, 5, 0, 0];
-    let calls: [(&str, Made, Made); 16] = [
+    const PANEL: [u8; 2] = [2, 1];
+    let calls: [(&str, Made, Made); 18] = [
         ("check", |a| unsafe { raw::jidrofex_check(null(), 0, a.as_mut_ptr()) }, |a| told::check(&[], a)),
         ("check_panel", |a| unsafe { raw::jidrofex_check_panel(null(), 0, a.as_mut_ptr()) }, |a| told::check_panel(&[], a)),
         ("rank", |a| unsafe { raw::jidrofex_rank(null(), 0, a.as_mut_ptr()) }, |a| told::rank(&[], a)),
@@ -92,6 +93,8 @@ pub fn null_pointers(h: &mut Harness) {
         ("rehearse", |a| unsafe { raw::jidrofex_rehearse(null(), 0, null_mut(), 0, a.as_mut_ptr()) }, |a| told::rehearse(&[], &mut [], a)),
         ("report", |a| unsafe { raw::jidrofex_report(null_mut(), 0, 0, a.as_mut_ptr()) }, |a| told::report(&mut [], 0, a)),
         ("request", |a| unsafe { raw::jidrofex_request(null_mut(), 0, null_mut(), 0, a.as_mut_ptr()) }, |a| told::request(&mut [], &mut [], a)),
+        ("resume", |a| unsafe { raw::jidrofex_resume(null_mut(), 0, null(), 0, a.as_mut_ptr()) }, |a| told::resume(&mut [], &[], a)),
+        ("resume", |a| unsafe { raw::jidrofex_resume(null_mut(), 0, PANEL.as_ptr(), 2, a.as_mut_ptr()) }, |a| told::resume(&mut [], &PANEL, a)),
     ];
     for (name, library, reference) in calls {
         let wanted = told_of(reference);
@@ -146,18 +149,21 @@ pub fn errors(h: &mut Harness) {
 pub fn words(h: &mut Harness) {
     let mut rng = Rng::of(h.seed, "words", 0);
     for _ in 0..30 {
-        let state = inputs::reached(&mut rng).to_words();
+        let reached = inputs::reached(&mut rng);
+        let state = reached.to_words();
         for place in 0..WORDS {
             let old = state[place];
             for value in [old, old.wrapping_add(1), old.wrapping_sub(1), 0, 256, old.wrapping_add(256), old ^ (1 << 32), old ^ (1 << 63), u64::MAX] {
                 let mut changed = state.to_vec();
                 changed[place] = value;
+                h.compare(Call::on_both(Name::Resume, reached.panel.clone(), changed.clone()));
                 on_state(h, &mut rng, changed);
             }
         }
         for length in [0, 1, 60, 62, 122, 317] {
             let mut other = state.to_vec();
             other.resize(length, 0);
+            h.compare(Call::on_both(Name::Resume, reached.panel.clone(), other.clone()));
             for name in [Name::Request, Name::Report { kind: 0 }, Name::Begin] {
                 h.compare(Call::on_both(name, b"ports=2\nlegs=1\nstart=0\nrun=0\n".to_vec(), other.clone()));
             }
@@ -188,8 +194,9 @@ pub fn rehearsal_words(h: &mut Harness) {
                 h.compare(Call::on_both(name, b"ports=2\nlegs=1\nstart=0\nrun=0\n".to_vec(), other.clone()));
             }
         }
-        let state = inputs::reached(&mut rng).to_words();
-        h.compare(Call::on_both(Name::Orders, vec![0; 90], state.to_vec()));
+        let state = inputs::reached(&mut rng);
+        h.compare(Call::on_both(Name::Orders, vec![0; 90], state.to_words().to_vec()));
+        h.compare(Call::on_both(Name::Resume, state.panel, rehearsal.to_vec()));
         for name in [Name::Request, Name::Report { kind: 0 }, Name::Report { kind: 3 }] {
             h.compare(Call::on_both(name, vec![0; 45], rehearsal.to_vec()));
         }

@@ -3,10 +3,11 @@
 use crate::calls::{Call, Name, Outcome};
 use crate::inputs::{self, Rng};
 use crate::Harness;
-use reference::campaign::{print, ENDED, PANEL, STANDING, WORDS};
-use reference::list::count_of;
+use reference::campaign::{print, State, ENDED, PANEL, PORTS, STANDING, WORDS};
+use reference::list::{at, count_of};
 use reference::plan::{Leg, Plan};
 use reference::rehearsal::REHEARSAL_WORDS;
+use reference::told;
 
 /// Signed numbers and each kind of slice, with values that would show a number cut short, a sign lost or a slice read beside its place.
 pub fn crossing(h: &mut Harness, rng: &mut Rng) {
@@ -134,23 +135,29 @@ pub fn room(rng: &mut Rng) -> usize {
     }
 }
 
+/// A report or a request on a state, mostly in step with the bench.
+fn in_campaign(rng: &mut Rng, state: Vec<u64>) -> Call {
+    let standing = state[STANDING] == 1;
+    if standing == rng.chance(92) {
+        let kind = rng.pick(&[0, 0, 0, 0, 0, 0, 1, 1, 2, 2, 3, 255]);
+        return Call::on_both(Name::Report { kind }, vec![], state);
+    }
+    let bytes = room(rng);
+    Call::on_both(Name::Request, rng.bytes(bytes), state)
+}
+
 /// A campaign from its plan on: requests and reports in any order, each on the state that the last call left, mostly in step with the bench.
 pub fn campaigns(h: &mut Harness, rng: &mut Rng) {
     let plan = if rng.chance(85) { inputs::short_plan(rng, 10) } else { inputs::plan(rng) };
     let mut state = begin_on(h, rng, inputs::plan_text(&plan), WORDS).words;
     let mut after_end = 0;
     for _ in 0..rng.between(20, 140) {
-        let standing = state[STANDING] == 1;
-        let call = if standing == rng.chance(92) {
-            let kind = rng.pick(&[0, 0, 0, 0, 0, 0, 1, 1, 2, 2, 3, 255]);
-            Call::on_both(Name::Report { kind }, vec![], state)
-        } else if rng.chance(2) {
+        let call = if rng.chance(1) {
             // a state is no rehearsal: 15
             let bytes = rng.below(100);
             Call::on_both(Name::Orders, rng.bytes(bytes), state)
         } else {
-            let bytes = room(rng);
-            Call::on_both(Name::Request, rng.bytes(bytes), state)
+            in_campaign(rng, state)
         };
         state = h.compare(call).words;
         after_end += state[ENDED];
@@ -201,6 +208,60 @@ pub fn damaged_states(h: &mut Harness, rng: &mut Rng) {
 pub fn random_states(h: &mut Harness, rng: &mut Rng) {
     let state = inputs::random_state(rng);
     on_state(h, rng, state);
+}
+
+/// Going on with a panel that was read back, from words that were saved: of a state that calls leave, mostly, or of a random one.
+pub fn resume(h: &mut Harness, rng: &mut Rng) {
+    let (words, panel) = if rng.chance(10) {
+        let words = inputs::random_state(rng);
+        let ports = words[PORTS].clamp(2, 20) as usize;
+        let own = words[PANEL..PANEL + ports].iter().map(|&port| port as u8).collect();
+        (words, if rng.chance(60) { own } else { inputs::any_panel(rng) })
+    } else {
+        let state = inputs::reached(rng);
+        (inputs::saved(rng, &state), inputs::read_back(rng, &state))
+    };
+    h.compare(Call::on_both(Name::Resume, panel, words));
+}
+
+/// A campaign with power cuts. A cut comes in a call: the state before it or the one after it was saved, and the order was obeyed or was not. Going on is
+/// accepted and gives the state before that call or after it, with the panel that is on the bench; and each mark, before a cut and after it, meets the
+/// pattern of its rank on the bench.
+pub fn cuts(h: &mut Harness, rng: &mut Rng) {
+    let plan = if rng.chance(70) { inputs::short_plan(rng, 10) } else { inputs::plan(rng) };
+    let mut state = begin_on(h, rng, inputs::plan_text(&plan), WORDS).words;
+    let mut bench = State::first(plan).panel;
+    let mut after_end = 0;
+    for _ in 0..rng.between(10, 80) {
+        let call = in_campaign(rng, state.clone());
+        let requested = matches!(call.name, Name::Request);
+        let outcome = h.compare(call);
+        let after = outcome.words;
+        let mut obeyed = bench.clone();
+        if requested && outcome.number == 0 {
+            let [kind, a, b, c, _] = outcome.answer;
+            let carried = told::carry(&mut obeyed, &[kind, a, b, c], &mut [0; 5]);
+            h.compare_made("the order carried out on the bench", carried, carried, 0);
+            if kind == 3 {
+                h.compare_made("the bench at a mark, beside the pattern of its rank", 0, &obeyed, &at(bench.len(), b.into()));
+            }
+        }
+        if rng.chance(20) {
+            let saved = rng.pick(&[&state, &after]);
+            let stands = rng.pick(&[&bench, &obeyed]);
+            let resumed = h.compare(Call::on_both(Name::Resume, stands.clone(), saved.clone()));
+            // a call that moves no cord leaves the saved state; of one that does, the panel says whether it was carried out
+            let wanted = if bench == obeyed { saved } else if *stands == bench { &state } else { &after };
+            h.compare_made("the state after a cut", resumed.number, (resumed.number, &resumed.words), (0, wanted));
+            (state, bench) = (resumed.words, stands.clone());
+        } else {
+            (state, bench) = (after, obeyed);
+        }
+        after_end += state[ENDED];
+        if after_end > 4 {
+            return;
+        }
+    }
 }
 
 /// One buffer from a rehearsal, and one from what it left; or a call of the campaign, which refuses its words.

@@ -78,7 +78,7 @@ pub fn permutation(rng: &mut Rng, n: usize) -> Vec<u8> {
 }
 
 /// One to three entries changed for the worse, or only exchanged.
-fn damage_entries(rng: &mut Rng, p: &mut [u8]) {
+pub fn damage_entries(rng: &mut Rng, p: &mut [u8]) {
     let n = p.len();
     for _ in 0..rng.between(1, 3) {
         let (j, other) = (rng.below(n), rng.below(n));

@@ -1,6 +1,6 @@
 //! States and rehearsals: reached by calls, one step away from those, and by chance.
 
-use super::{pattern, permutation, plan, ports, rank, run, short_plan, wide, Rng};
+use super::{any_panel, damage_entries, pattern, permutation, plan, ports, rank, run, short_plan, wide, Rng, BAD_LENGTHS};
 use reference::campaign::{State, COVERED, ENDED, ERRORS, LEG, LEGS, OPEN, PANEL, PORTS, RUNS, STANDING, STARTS, STEP, WORDS};
 use reference::rehearsal::{Rehearsal, REHEARSAL_ENDED, REHEARSAL_WORDS};
 use reference::list::{apply, place, count_of, difference, Move};
@@ -111,6 +111,61 @@ pub fn random_state(rng: &mut Rng) -> Vec<u64> {
     words[ERRORS] = rng.pick(&[0, 1, 65_534, 65_535, 65_536, 131_071, u64::MAX]);
     words[STANDING] = rng.pick(&[0, 0, 0, 1, 2]);
     words[ENDED] = rng.pick(&[0, 0, 0, 1, 256]);
+    words
+}
+
+/// A panel as it may be read back beside a state: one that stands on the way to its mark, nearly one, one of other ports, or none.
+pub fn read_back(rng: &mut Rng, state: &State) -> Vec<u8> {
+    let State { plan, leg, step, .. } = state;
+    let wanted = plan.pattern(*leg, *step);
+    let last = plan.pattern(*leg, step.saturating_sub(1));
+    match rng.below(12) {
+        0 | 1 => state.panel.clone(),
+        2 | 3 => wanted,
+        4 => last,
+        5 => plan.pattern(*leg, step + 1),
+        6 | 7 => {
+            // a part of the move to the mark: of two swaps the first alone may stand
+            let mut panel = last.clone();
+            match difference(&last, &wanted) {
+                Some(Move::TwoSwaps(a, b, _, _)) if rng.chance(70) => apply(Move::Swap(a, b), &mut panel),
+                Some(Move::TwoSwaps(_, _, a, b) | Move::Turn(a, b, _)) => apply(Move::Swap(a, b), &mut panel),
+                _ => {}
+            }
+            panel
+        }
+        8 => permutation(rng, plan.ports),
+        9 => {
+            let other = ports(rng);
+            permutation(rng, other)
+        }
+        10 if rng.chance(25) => (0..rng.pick(&BAD_LENGTHS)).map(|j| (j + 1) as u8).collect(),
+        10 => any_panel(rng),
+        _ => {
+            let mut panel = state.panel.clone();
+            damage_entries(rng, &mut panel);
+            panel
+        }
+    }
+}
+
+/// The words of a state as they may have been saved: as they are, with another panel in them, or damaged.
+pub fn saved(rng: &mut Rng, state: &State) -> Vec<u64> {
+    let mut words = state.to_words().to_vec();
+    match rng.below(12) {
+        0 => damage_pair(rng, &mut words),
+        1 => words.resize(rng.pick(&[0, 1, 60, 62, 122, REHEARSAL_WORDS]), 0),
+        2 => {
+            let place = rng.below(WORDS);
+            damage_word(rng, &mut words, place);
+        }
+        3 => {
+            let place = rng.between(PANEL, LEG - 1);
+            damage_word(rng, &mut words, place);
+        }
+        4 | 5 => words[PANEL..LEG].fill_with(|| rng.byte().into()),
+        _ => {}
+    }
     words
 }
 
