@@ -1,10 +1,10 @@
-# The types: code that takes a port where a jack is meant, or a jack where a port is meant, does not build, and the same code with the other does.
-# Each probe is a crate of its own over `words` and `panel`, in a copy of the tree, since a source file that does not build may not stand in the
-# tree itself.
+# The types: code that takes a port where a jack is meant, or a jack where a port is meant, does not build, and the same code with the other does; so with a
+# rehearsal where a campaign is meant, and the reverse. Each probe is a crate of its own over the crates that it names, in a copy of the tree, since a source file
+# that does not build may not stand in the tree itself.
 types_copy=$(mktemp -d)
 mkdir -p "$types_copy/crates" "$types_copy/target/rlib" "$types_copy/target/stamp"
-# with what is proved of these crates, so that nothing is proved again
-for types_crate in listing words pattern_check pattern_carry panel; do
+# with what is proved of the crates up to `printing`, so that nothing is proved again
+for types_crate in $(sed '/^printing:/q' crates.txt | cut -d: -f1); do
     cp -R "crates/$types_crate" "$types_copy/crates/"
     grep "^$types_crate:" crates.txt >>"$types_copy/crates.txt"
     cp -R "target/rlib/$types_crate.rlib" "$types_copy/target/rlib/"
@@ -58,4 +58,14 @@ twins port_at_gives Port Jack "$port_for_jack" 'fn number(x: WORD) -> u8 { x.0 }
 pub fn probe(panel: &[u8], jack: Jack) -> u8 { match port_at(panel, jack) { Looked::Joined(x) => number(x), Looked::Refused(_) => 0 } }'
 twins jack_of_gives Jack Port "$jack_for_port" 'fn number(x: WORD) -> u8 { x.0 }
 pub fn probe(panel: &[u8], port: Port) -> u8 { match jack_of(panel, port) { Found::Held(x) => number(x), Found::Refused(_) => 0 } }'
+
+# lines in bulk are of a rehearsal, requests and reports of a campaign
+types_over='printing campaign campaign_state plan_rules words'
+types_uses='use campaign::{Campaign, Reported, Requested};
+use printing::{Printed, Rehearsal, fill};'
+campaign_for_rehearsal='expected `Rehearsal`, found `Campaign`'
+rehearsal_for_campaign='expected `Campaign`, found `Rehearsal`'
+twins fill_takes Rehearsal Campaign "$campaign_for_rehearsal" 'pub fn probe(x: WORD, buf: &mut [u8]) -> Printed { fill(x, buf) }'
+twins request_takes Campaign Rehearsal "$rehearsal_for_campaign" 'pub fn probe(x: WORD, buf: &mut [u8]) -> Requested { Campaign::request(x, buf) }'
+twins report_takes Campaign Rehearsal "$rehearsal_for_campaign" 'pub fn probe(x: WORD) -> Reported { Campaign::report(x, 0) }'
 rm -rf "$types_copy"
