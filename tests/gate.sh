@@ -1,5 +1,6 @@
 # The gate's own tests: a copy of the tree with one thing wrong must fail, for that reason, and say so in its last line. A copy runs the parts that are looked
 # at before any proof, and no copy makes copies, so each takes a moment whatever is wrong. What the prover says of wrong edits is tried in refusals.sh.
+type edits_there >/dev/null 2>&1 || . "$root/tests/edits.sh"
 gate_copies=$(mktemp -d)
 trap 'rm -rf "$gate_copies"' EXIT
 
