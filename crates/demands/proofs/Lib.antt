@@ -6,6 +6,7 @@ pub mod Three
 pub mod Bytes
 pub mod Words
 pub mod Onward
+pub mod Lives
 pub mod Refusals
 pub mod Ends
 pub mod Longest

@@ -45,7 +45,9 @@ use Rattle.campaign_reached.proofs.Begun.{lawful, accepts, plan-fits}
 use Rattle.campaign_reached.proofs.Kept.{Kept, turns-model, left-so, left-model, left-places}
 use Rattle.campaign_reached.proofs.Own.{own, own-reached}
 use Rattle.campaign_reached.proofs.Reached.{Reached, reached-left}
-use Rattle.face_state.specs.States.{stateIn}
+use Rattle.face_state.specs.States.{stateIn, stateWords}
+use Rattle.face_laws.specs.Calls.{resumeTold, resumeWords}
+use Rattle.face_laws.proofs.Resumes.{resume-told, resume-left}
 use Rattle.face_reached.proofs.InRange.{words-hold}
 use Rattle.face_reached.proofs.Read.{Read, read-own}
 use Rattle.demands.specs.Robot.{robotActs}
@@ -155,7 +157,7 @@ module _ (P : AcceptedPlan) where
 -- a call that was cut short on a fit state: whichever of the two states was saved, and whichever of the two panels stands
 module _ (s : State) (z : Sized s) (f : fit s ≡ true) (c : Call) where
   -- the state that the call leaves is fit too
-  left-fit : (Reached (own s z f) (leftOf c s)) × Sized (leftOf c s) × (fit (leftOf c s) ≡ true)
+  pub left-fit : (Reached (own s z f) (leftOf c s)) × Sized (leftOf c s) × (fit (leftOf c s) ≡ true)
   unfolding leftOf fit
   left-fit =
       let R = own-reached s z f in
@@ -183,3 +185,9 @@ module _ (s : State) (z : Sized s) (f : fit s ≡ true) (c : Call) where
       either (cut-so C (lawful P) (accepts P) c m (R .fit) (pastOf C m) (own-past C (lawful P) (accepts P) m (R .fit)) (momentOf x) q cut)
       (λ u. inl (goes-as P x s q R z f plan (u .same)))
       (λ u. inr (goes-as P x (leftOf c s) q (left-fit .0) (left-fit .1) (left-fit .2) plan (u .same ∙ sym on)))
+
+-- so for C: the words that `jidrofex_resume` leaves of words of the saved state are those of the state that goes on
+pub resumed-words : (ws : List ℕ) (x y : State) (q : List ℕ) → stateIn ws ≡ some x → GoesOnAs x q y → (resumeTold q ws ≡ accepted tt) × (resumeWords q ws ≡ stateWords y)
+unfolding resumedOf
+resumed-words ws x y q e g =
+    (sym (resume-told q ws (sym e)) ∙ g .told, sym (resume-left q ws (sym e) refl) ∙ ap stateWords (g .gives))

@@ -4,6 +4,7 @@ pub mod One
 pub mod Two
 pub mod Robot
 pub mod Words
+pub mod Lives
 pub mod Prompt
 pub mod Only
 pub mod Counts
