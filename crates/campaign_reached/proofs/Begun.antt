@@ -35,7 +35,7 @@ use Rattle.campaign_reached.specs.Turns.{AcceptedPlan, campaignOf, begun
 use Rattle.campaign_reached.proofs.Kept.{Kept}
 
 -- home has as many jacks as there are ports
-length-home : (n : ℕ) → length (home n) ≡ n
+pub length-home : (n : ℕ) → length (home n) ≡ n
 unfolding home
 length-home n = length-tabulate n _
 

@@ -13,7 +13,7 @@ use Rattle.listing.proofs.Numbers.{either, test}
 use Rattle.listing.proofs.Sources.{carry-permutation}
 use Rattle.promise.specs.Plan.{rankAt}
 use Rattle.promise.specs.Campaign as model
-use Rattle.promise.specs.Campaign.{Setting, here, wanted, rankOf}
+use Rattle.promise.specs.Campaign.{Setting, here, wanted}
 use Rattle.promise.specs.Derangements.{derangements}
 use Rattle.promise.specs.Fitness.{Fit, OnTheWay}
 use Rattle.plan_rules.specs.Places.{plannedOf}
@@ -21,14 +21,13 @@ use Rattle.plan_rules.specs.Planned.{device}
 use Rattle.plans.specs.Grammar.{planText}
 use Rattle.plans.proofs.Plans.{fits-accepted}
 use Rattle.plans.proofs.Longest.{device-wide}
-use Rattle.campaign_state.specs.State.{settingOf, momentOf}
+use Rattle.campaign_state.specs.State.{momentOf}
 use Rattle.campaign_state.specs.Fitness.{fit}
 use Rattle.campaign_state.specs.declared.State.{State}
 use Rattle.campaign_state.proofs.Fit.{fit-parts, moment-fit, fit-inside}
 use Rattle.campaign_state.proofs.Places.{Sized, rules, few-ports}
 use Rattle.campaign_reached.specs.Turns.{AcceptedPlan, campaignOf}
 use Rattle.campaign_reached.proofs.Begun.{lawful, accepts}
-use Rattle.campaign_reached.proofs.Kept.{Kept}
 use Rattle.campaign_reached.proofs.Reached.{Reached}
 
 -- orders in shape keep a permutation one, however many of them are carried out

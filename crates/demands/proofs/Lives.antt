@@ -1,10 +1,9 @@
 -- A life with any number of power cuts is an uncut campaign in what was kept: the bench comes out with the state that the kept calls leave, and demand three
 -- holds of them, from any fit state on (`lived`).
 -- Assumes nothing.
-use mathlib.Core.Path.{_≡_, refl, sym, ap, subst, _∙_}
+use mathlib.Core.Path.{_≡_, refl, ap, subst, _∙_}
 use mathlib.Core.Bool.{true}
 use mathlib.Core.List.{List, [], _∷_}
-use Prim.Native.Nat.{ℕ}
 use Rattle.listing.proofs.Numbers.{either}
 use Rattle.promise.specs.Bench.{acts}
 use Rattle.promise.specs.Onward.{Onward, pastOf}
@@ -13,10 +12,9 @@ use Rattle.campaign_state.specs.Fitness.{fit}
 use Rattle.campaign_state.specs.declared.State.{State}
 use Rattle.campaign_state.proofs.Places.{Sized}
 use Rattle.campaign.specs.Calls.{leftOf}
-use Rattle.campaign_onward.specs.Calls.{resumedOf}
 use Rattle.campaign_reached.specs.Turns.{Called, callOf, turnsOf, leftAfter}
 use Rattle.demands.specs.Lives.{Event, made, cut, Possible, through, KeptOf, none, made-kept, cut-kept, cut-lost}
-use Rattle.demands.proofs.Onward.{GoesOnAs, left-fit, onward-left, cut-resumed}
+use Rattle.demands.proofs.Onward.{left-fit, onward-left, cut-resumed}
 
 -- the calls that a life kept, and that it comes out as they do
 pub record Kept (es : List Event) (s : State) : Type 0 where

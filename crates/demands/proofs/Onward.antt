@@ -4,10 +4,10 @@
 -- Assumes nothing.
 use mathlib.Core.Path.{_≡_, refl, sym, ap, subst, _∙_}
 use mathlib.Core.Logic.{_⊎_, inl, inr}
-use mathlib.Core.Bool.{true, false, and-eq-true-iff}
+use mathlib.Core.Bool.{true, and-eq-true-iff}
 use mathlib.Core.List.{List, [], _∷_, _++_, map}
 use mathlib.Core.Option.{some}
-use Prim.Native.Nat.{ℕ, zero, suc, _-_, _≤_}
+use Prim.Native.Nat.{ℕ, _-_}
 use native.Mathlib.Omega.{arith}
 use lib.ListN.{length, take, drop, replicate, length-drop, take-append-drop}
 use lib.Dec.{eqb}
@@ -18,16 +18,15 @@ use Rattle.listing.specs.Pattern.{Permutation}
 use Rattle.listing.proofs.Numbers.{either}
 use Rattle.words.specs.Told.{accepted}
 use Rattle.words.specs.Padded.{padded}
-use Rattle.pattern_check.specs.Calls.{checkAs}
 use Rattle.pattern_check.proofs.Accepted.{Panel, panel-accepted}
 use Rattle.promise.specs.Campaign as model
-use Rattle.promise.specs.Campaign.{Setting, Call, after, answer}
+use Rattle.promise.specs.Campaign.{Setting, Call, after}
 use Rattle.promise.specs.Bench.{acts, run, leaves}
 use Rattle.promise.specs.Onward.{Onward, pastOf}
 use Rattle.promise.proofs.Fitness.{tells-fit}
 use Rattle.promise.proofs.Onward.{onward-fit}
 use Rattle.promise.proofs.Past.{own-past}
-use Rattle.promise_onward.specs.Resume.{resumed, TakenUp}
+use Rattle.promise_onward.specs.Resume.{resumed}
 use Rattle.promise_onward.specs.Cuts.{left, Cut}
 use Rattle.promise_onward.proofs.Cuts.{saved-itself, cut-so}
 use Rattle.plan_rules.specs.Planned.{device}

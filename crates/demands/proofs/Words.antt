@@ -11,7 +11,7 @@ use native.Mathlib.Omega.{arith}
 use lib.ListN.{length}
 use Rattle.listing.specs.Count.{count}
 use Rattle.promise.specs.Plan.{Leg}
-use Rattle.promise.specs.Campaign.{Setting, Call, request, report, Answer, movement, mark, theEnd, taken, refusal}
+use Rattle.promise.specs.Campaign.{Setting, request, report, Answer, movement, mark, theEnd, taken, refusal}
 use Rattle.promise.specs.Campaign as model
 use Rattle.promise.specs.Bench.{Turn, Act, inFront}
 use Rattle.promise.specs.Demand.{Demanded, FullCircuit}

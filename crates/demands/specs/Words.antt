@@ -6,7 +6,7 @@ use mathlib.Core.List.{List, [], _∷_}
 use lib.ListN.{length}
 use Rattle.words.specs.Told.{Told, accepted, refused}
 use Rattle.promise.specs.Campaign as model
-use Rattle.promise.specs.Campaign.{Call, request, report, reportOf, Answer, refusal}
+use Rattle.promise.specs.Campaign.{request, report, reportOf, Answer, refusal}
 use Rattle.promise.specs.Bench.{Turn, Act, says}
 use Rattle.campaign_state.specs.State.{momentOf}
 use Rattle.campaign_state.specs.declared.State.{State}

@@ -1,7 +1,7 @@
 -- Going on after a power cut, where the state crosses in words: what the call behind tells and leaves is told and left (`resume-told`, `resume-left`); where the
 -- words are no state, the panel's own refusal is told, or 15 (`resume-panel`, `resume-none`).
 -- Assumes nothing.
-use mathlib.Core.Path.{_≡_, refl, sym, ap, _∙_}
+use mathlib.Core.Path.{_≡_, sym, ap, _∙_}
 use mathlib.Core.Bool.{false}
 use mathlib.Core.List.{List}
 use mathlib.Core.Option.{none, some}

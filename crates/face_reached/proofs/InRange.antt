@@ -1,6 +1,6 @@
 -- Every state that calls leave is in range: each field is a number that its word can hold (`in-range`), so that words and state are each other's inverse there.
 -- Assumes nothing.
-use mathlib.Core.Path.{_≡_, refl, sym, ap, subst, _∙_}
+use mathlib.Core.Path.{_≡_, refl, sym, subst, _∙_}
 use mathlib.Core.Bool.{Bool, true, false, cond, and-eq-true-iff}
 use mathlib.Core.List.{List, [], _∷_, map}
 use mathlib.Core.Option.{some}
@@ -17,10 +17,10 @@ use Rattle.listing.specs.Limits.{mostPorts, mostLegs, largest64}
 use Rattle.listing.specs.Pattern.{Permutation}
 use Rattle.listing.proofs.Limits.{count-most}
 use Rattle.listing.proofs.Numbers.{either, below?}
-use Rattle.listing.proofs.Panels.{length-tabulate}
 use Rattle.words.specs.Padded.{padded}
 use Rattle.words.specs.Signs.{withSign, signedLimit}
 use Rattle.words.proofs.Padded.{padded-length, padded-beyond}
+use Rattle.words.proofs.WithSign.{behind-fits}
 use Rattle.promise.specs.Plan.{Leg, marks}
 use Rattle.promise.specs.Campaign.{Call, Setting, closedMarks, numberOf}
 use Rattle.promise.proofs.Legs.{number-below}
@@ -36,7 +36,7 @@ use Rattle.campaign_state.specs.Fitness.{emptyFrom, placesFit}
 use Rattle.campaign_state.proofs.Places.{Sized, rules, tells-empty}
 use Rattle.campaign.specs.Calls.{leftOf, firstState}
 use Rattle.campaign_reached.specs.Turns.{AcceptedPlan, campaignOf, begun}
-use Rattle.campaign_reached.proofs.Begun.{plan-fits}
+use Rattle.campaign_reached.proofs.Begun.{length-home, plan-fits}
 use Rattle.campaign_reached.proofs.Kept.{Kept, left-places}
 use Rattle.campaign_reached.proofs.Reached.{Reached}
 use Rattle.face_state.proofs.Parts.{inside}
@@ -69,19 +69,13 @@ each-start size (l ∷ ls) f h zero = omega (arith, f .0 .start)
 each-start size (l ∷ ls) f h (suc i) = each-start size ls (f .1) h i
 
 run-held : (back : Bool) (m : ℕ) → m < signedLimit → SFits w64 (withSign (record { back = back; magnitude = m }))
-run-held true zero h = record { sfits = h }
-run-held true (suc n) h = record { sfits = omega arith }
+run-held true m h = behind-fits m h
 run-held false m h = record { sfits = h }
 
 each-run : (size : ℕ) (ls : List Leg) → EachFits size ls → size ≤ signedLimit → (i : ℕ) → SFits w64 (getD (map (λ l. withSign (runOf l)) ls) i (pos 0))
 each-run size [] f h i = record { sfits = omega arith }
 each-run size (l ∷ ls) f h zero = run-held (l .back) (l .run) (omega (arith, f .0 .run))
 each-run size (l ∷ ls) f h (suc i) = each-run size ls (f .1) h i
-
--- home has as many jacks as there are ports
-length-home : (n : ℕ) → length (home n) ≡ n
-unfolding home
-length-home n = length-tabulate n _
 
 module _ (P : AcceptedPlan) where
   abbrev p : Planned

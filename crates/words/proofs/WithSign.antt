@@ -12,7 +12,7 @@ use Rattle.words.specs.Signs.{ahead, behind, signedLimit, withSign}
 use Rattle.words.specs.declared.Signed.{Signed}
 
 -- what lies as far behind 0 is a signed number of 64 bits
-behind-fits : (m : ℕ) → m < signedLimit → SFits w64 (negℤ (pos m))
+pub behind-fits : (m : ℕ) → m < signedLimit → SFits w64 (negℤ (pos m))
 behind-fits zero h = record { sfits = h }
 behind-fits (suc n) h = record { sfits = omega arith }
 

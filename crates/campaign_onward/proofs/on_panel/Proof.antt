@@ -1,7 +1,6 @@
 -- `campaign_onward::on_panel`: 15 for a panel of other ports or a state that is not fit with it; else the state with the panel put in.
 -- Assumes nothing.
-use mathlib.Core.Path.{_≡_, refl, sym, ap, _∙_}
-use native.Mathlib.Omega.{arith}
+use mathlib.Core.Path.{sym, ap, _∙_}
 use borrow.Author.Needs.{needs}
 use Rattle.words.specs.Meaning.{refusalOf}
 use Rattle.campaign_state.specs.Fitness.{fit}
