@@ -4,7 +4,7 @@
 use mathlib.Core.Path.{_≡_, refl, sym, ap, _∙_}
 use mathlib.Core.Bool.{Bool, true, false, cond, _&&_}
 use mathlib.Core.List.{List, [], _∷_, _++_, map}
-use Prim.Native.Nat.{suc, _≤_}
+use Prim.Native.Nat.{ℕ, suc, _≤_}
 use native.Mathlib.Omega.{arith}
 use lib.Dec.{ltb}
 use lib.ListN.{length, take, drop, length-append, length-drop}
@@ -25,24 +25,25 @@ use Rattle.campaign_reached.specs.Turns.{Called, callOf, turnsOf, leftAf
 
 -- ---- the panel's length in the model
 
--- closing a mark leaves the panel
-closed-panel : (C : Setting) (m : model.State) → closed C m .panel ≡ m .panel
+-- closing a mark leaves what does not hang on the leg, the step and the end
+pub closed-leaves : {A : Type 0} (field : model.State → A) (C : Setting) (m : model.State) → ((i k : ℕ) (b : Bool) → field (placed i k b m) ≡ field m)
+    → field (closed C m) ≡ field m
 unfolding closed
-closed-panel C m = by (ltb (m .step) (here C m .run)) (ltb (suc (m .leg)) (length (C .legs)))
+closed-leaves field C m same = by (ltb (m .step) (here C m .run)) (ltb (suc (m .leg)) (length (C .legs)))
   where
     by : (a b : Bool)
-        → cond a (placed (m .leg) (suc (m .step)) false m) (cond b (placed (suc (m .leg)) 0 false m) (placed (m .leg) (m .step) true m)) .panel ≡ m .panel
-    by true b = refl
-    by false true = refl
-    by false false = refl
+        → field (cond a (placed (m .leg) (suc (m .step)) false m) (cond b (placed (suc (m .leg)) 0 false m) (placed (m .leg) (m .step) true m))) ≡ field m
+    by true b = same (m .leg) (suc (m .step)) false
+    by false true = same (suc (m .leg)) 0 false
+    by false false = same (m .leg) (m .step) true
 
--- and so does a report
+-- a report leaves the panel
 heard-panel : (C : Setting) (w : Report) (m : model.State) → heard C w m .panel ≡ m .panel
 unfolding heard
 heard-panel C w m = by (isClosing w)
   where
     by : (b : Bool) → cond b (closed C (tallied w m)) (withMark false (tallied w m)) .panel ≡ m .panel
-    by true = closed-panel C (tallied w m)
+    by true = closed-leaves (λ s. s .panel) C (tallied w m) (λ i k b. refl)
     by false = refl
 
 -- no call changes how many jacks the panel has

@@ -1,12 +1,11 @@
 -- Only reports raise covered (`only-reports-raise`): of every state and every call, in the code and in the words for C.
 -- Assumes nothing.
 use mathlib.Core.Path.{_≡_, refl, sym, ap, _∙_}
-use mathlib.Core.Bool.{Bool, true, false, cond}
+use mathlib.Core.Bool.{false}
 use mathlib.Core.List.{List}
 use mathlib.Core.Option.{none}
 use Prim.Native.Nat.{ℕ, zero, suc, _+_}
 use native.Mathlib.Omega.{arith}
-use lib.Dec.{ltb}
 use lib.ListN.{length, take, drop, length-append, take-append-drop}
 use Rattle.listing.proofs.Numbers.{either, test}
 use Rattle.listing.specs.Limits.{mostPorts}
@@ -15,14 +14,14 @@ use Rattle.words.proofs.Told.{then-accepted}
 use Rattle.words.proofs.Padded.{padded-length}
 use Rattle.pattern_check.specs.Calls.{checkAs}
 use Rattle.promise.specs.Campaign as model
-use Rattle.promise.specs.Campaign.{Setting, Call, request, report, reportOf, tallied, Answer, movement, mark, theEnd, taken, refusal, placed, here, closed, heard}
+use Rattle.promise.specs.Campaign.{Setting, Call, request, report, reportOf, tallied, Answer, movement, mark, theEnd, taken, refusal, closed, heard}
 use Rattle.campaign_state.specs.State.{settingOf, momentOf}
 use Rattle.campaign_state.specs.declared.State.{State}
 use Rattle.campaign_state.proofs.Places.{Sized}
 use Rattle.campaign.specs.Calls.{answerOf, after, leftOf, toldOf}
 use Rattle.campaign_onward.specs.Calls.{panelIn, fitTold, resumeOf, resumedOf, goesOn}
 use Rattle.campaign_onward.proofs.Resumes.{few-ports}
-use Rattle.campaign_reached.proofs.Kept.{after-length}
+use Rattle.campaign_reached.proofs.Kept.{closed-leaves, after-length}
 use Rattle.face_state.specs.States.{coveredPlace, stateAt, stateIn, within, limits, word}
 use Rattle.face_state.proofs.Within.{within-length}
 use Rattle.face_state.proofs.StateWords.{last-word, is-state, no-state}
@@ -37,14 +36,7 @@ use Rattle.demands.specs.Counts.{raised, raisedBy, OnlyReportsRaise}
 
 -- closing a mark leaves covered
 closed-covered : (C : Setting) (m : model.State) → closed C m .covered ≡ m .covered
-unfolding closed
-closed-covered C m = by (ltb (m .step) (here C m .run)) (ltb (suc (m .leg)) (length (C .legs)))
-  where
-    by : (a b : Bool)
-        → cond a (placed (m .leg) (suc (m .step)) false m) (cond b (placed (suc (m .leg)) 0 false m) (placed (m .leg) (m .step) true m)) .covered ≡ m .covered
-    by true b = refl
-    by false true = refl
-    by false false = refl
+closed-covered C m = closed-leaves (λ s. s .covered) C m (λ i k b. refl)
 
 -- a report that is taken adds one if it is of kind 0
 heard-covered : (C : Setting) (kind : ℕ) (m : model.State) → heard C (reportOf kind) m .covered ≡ raised (report kind) taken + m .covered
