@@ -1,19 +1,20 @@
 -- What a call answers, by where the state stands: the clauses of the model, one by one.
 -- Assumes nothing.
-use mathlib.Core.Path.{_≡_, refl, ap, _∙_}
+use mathlib.Core.Path.{_≡_, refl, sym, ap, _∙_}
 use mathlib.Core.Bool.{Bool, true, false, cond, _&&_, true≢false}
 use mathlib.Core.List.{List, [], _∷_}
-use mathlib.Core.Option.{some}
+use mathlib.Core.Option.{Option, some}
 use Prim.Native.Nat.{ℕ, _+_, _≤_, _<_}
 use native.Mathlib.Omega.{arith}
+use lib.Dec.{eqb}
 use borrow.Author.Tests.{lt-ltb, le-ltb, le-leb, lt-leb}
 use Rattle.listing.specs.Orders.{Order, InShape}
 use Rattle.listing.specs.Limits.{largest64}
 use Rattle.listing.specs.Count.{count}
 use Rattle.promise.specs.Plan.{Leg}
 use Rattle.promise.specs.Campaign as model
-use Rattle.promise.specs.Campaign.{Call, request, report, movement, mark, theEnd, taken, refusal}
-use Rattle.promise.specs.Campaign.{todo, toCome, rankOf, closedMarks, offer}
+use Rattle.promise.specs.Campaign.{Call, request, reportTo, report, movement, mark, theEnd, taken, refusal}
+use Rattle.promise.specs.Campaign.{todo, toCome, rankOf, numberOf, closedMarks, offer, standsFor}
 use Rattle.promise.specs.Derangements.{derangements}
 use Rattle.promise.proofs.Ways.{coming}
 use Rattle.promise.proofs.Derangements.{lawful-on}
@@ -25,6 +26,7 @@ use Rattle.campaign_state.proofs.Fit.{fit-parts, moment-fit, fit-inside}
 use Rattle.campaign_state.proofs.Places.{Sized, number-room}
 use Rattle.plan_rules.specs.Rules.{legsOf}
 use Rattle.plan_rules.proofs.Marks.{number-before}
+use Rattle.promise.proofs.Refusals.{names-same}
 use Rattle.promise.proofs.Steps.{due-standing}
 use Rattle.campaign.specs.Calls.{answerOf, roomed}
 
@@ -37,7 +39,7 @@ unfit-answer c s e = by c (placesFit s) (model.fit (settingOf s) (momentOf s)) r
         → cond p (model.answer (settingOf s) c (momentOf s)) (refusal 15) ≡ refusal 15
     by c false m ep em h = refl
     by (request room) true false ep em h = rw em refl
-    by (report kind) true false ep em h = rw em refl
+    by (reportTo o kind) true false ep em h = rw em refl
     by c true true ep em h = absurd (true≢false h)
 
 module _ (s : State) (f : fit s ≡ true) where
@@ -73,13 +75,13 @@ module _ (s : State) (f : fit s ≡ true) where
 
   -- ---- reports
 
-  pub kind-answer : (kind : ℕ) → 2 < kind → answerOf (report kind) s ≡ refusal 14
+  pub kind-answer : (o : Option ℕ) (kind : ℕ) → 2 < kind → answerOf (reportTo o kind) s ≡ refusal 14
   unfolding answerOf model.answer
-  kind-answer kind h = rw (fit-parts s f .0, fit-parts s f .1, lt-ltb 2 kind h) refl
+  kind-answer o kind h = rw (fit-parts s f .0, fit-parts s f .1, lt-ltb 2 kind h) refl
 
-  pub none-answer : (kind : ℕ) → kind ≤ 2 → s .standing ≡ false → answerOf (report kind) s ≡ refusal 12
+  pub none-answer : (o : Option ℕ) (kind : ℕ) → kind ≤ 2 → standsFor (settingOf s) o (momentOf s) ≡ false → answerOf (reportTo o kind) s ≡ refusal 12
   unfolding answerOf model.answer
-  none-answer kind h st = rw (fit-parts s f .0, fit-parts s f .1, le-ltb 2 kind h, st) refl
+  none-answer o kind h st = rw (fit-parts s f .0, fit-parts s f .1, le-ltb 2 kind h, st) refl
 
   pub full-answer : s .standing ≡ true → 65535 ≤ s .errors → answerOf (report 1) s ≡ refusal 16
   unfolding answerOf model.answer
@@ -96,6 +98,18 @@ module _ (s : State) (f : fit s ≡ true) where
   pub gave-up-answer : s .standing ≡ true → answerOf (report 2) s ≡ taken
   unfolding answerOf model.answer
   gave-up-answer st = rw (fit-parts s f .0, fit-parts s f .1, st) refl
+
+-- ---- reports that name their mark
+
+-- a mark that stands does so for a report that names its number
+pub number-stands : (s : State) (m : ℕ) → s .standing ≡ true
+    → eqb m (numberOf (settingOf s) (momentOf s)) ≡ standsFor (settingOf s) (some m) (momentOf s)
+number-stands s m st = ap (λ b. b && eqb m (numberOf (settingOf s) (momentOf s))) (sym st)
+
+-- where a mark stands for a report, it is answered as one that names none
+pub named-answer : (s : State) (o : Option ℕ) (kind : ℕ) → standsFor (settingOf s) o (momentOf s) ≡ true → answerOf (reportTo o kind) s ≡ answerOf (report kind) s
+unfolding answerOf
+named-answer s o kind e = ap (λ a. cond (placesFit s) a (refusal 15)) (names-same (settingOf s) (momentOf s) o kind e)
 
 -- ---- counts
 

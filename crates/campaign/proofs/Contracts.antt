@@ -10,6 +10,7 @@ use Rattle.campaign.specs.Answers.{BeginIs, RequestIs, ReportIs}
 use Rattle.campaign.proofs.Campaign.begin.Reads as begin
 use Rattle.campaign.proofs.Campaign.request.Reads as request
 use Rattle.campaign.proofs.Campaign.report.Reads as report
+use Rattle.campaign.proofs.Campaign.report_mark.Reads as report-mark
 
 -- Campaign::begin(text: &[u8]) -> Begun
 pub begin-says : Says begin.Learnt (λ κs (text, _) r e. BeginIs (now text) r)
@@ -25,3 +26,8 @@ request-says κs a r e h = h
 -- Campaign::report(self, kind: u8) -> Reported
 pub report-says : Says report.Learnt (λ κs (self, (kind, _)) r e. let c = model.report kind in ReportIs c (answerOf c (self .state)) (self .state) r)
 report-says κs a r e h = h
+
+-- Campaign::report_mark(self, mark: u64, kind: u8) -> Reported
+pub report-mark-says : Says report-mark.Learnt
+    (λ κs (self, (mark, (kind, _))) r e. let c = model.reportOn mark kind in ReportIs c (answerOf c (self .state)) (self .state) r)
+report-mark-says κs a r e h = h

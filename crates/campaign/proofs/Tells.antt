@@ -3,6 +3,7 @@
 use mathlib.Core.Path.{_≡_, refl, sym, ap, _∙_, subst}
 use mathlib.Core.Bool.{Bool, true, false, not, cond}
 use mathlib.Core.List.{List}
+use mathlib.Core.Option.{Option}
 use Prim.Native.Nat.{ℕ, _≤_}
 use native.Mathlib.Omega.{arith}
 use lib.Dec.{ltb}
@@ -14,13 +15,14 @@ use Rattle.words.specs.declared.Line.the-variants.{Mark, End}
 use Rattle.words.specs.declared.Reason.{Reason}
 use Rattle.words.specs.declared.Place.the-variants.{Nowhere}
 use Rattle.words.proofs.Told.{not-both}
+use Rattle.promise.proofs.Refusals.{stands-none}
 use Rattle.promise.specs.Campaign as model
-use Rattle.promise.specs.Campaign.{Call, request, report, movement, mark, theEnd, taken, refusal, fit, offer}
+use Rattle.promise.specs.Campaign.{Call, request, reportTo, report, movement, mark, theEnd, taken, refusal, fit, offer}
 use Rattle.campaign_state.specs.State.{answerText, width, settingOf, momentOf}
 use Rattle.campaign_state.specs.Fitness.{placesFit}
 use Rattle.campaign_state.specs.declared.State.{State}
 use Rattle.campaign.specs.Calls.{answerOf, toldOf, after, leftOf, over, bytesOf, lineIs}
-use Rattle.campaign.specs.Answers.{answerTold, heardTold, RequestIs, ReportIs}
+use Rattle.campaign.specs.Answers.{answerTold, heardTold, RequestIs, ReportIs, UnheardIs}
 use Rattle.campaign.specs.declared.Requested.{Requested}
 use Rattle.campaign.specs.declared.Reported.{Reported}
 use Rattle.campaign.specs.declared.Answer.the-variants.{Refused as Answer-Refused}
@@ -108,6 +110,28 @@ bytes-by s buf a e = ap (λ x. over (answerText x) buf) (sym e)
 
 pub bytes-stay : (s : State) (buf : List ℕ) (k : ℕ) → answerOf (request (length buf)) s ≡ refusal k → buf ≡ bytesOf s buf
 bytes-stay s buf k e = bytes-by s buf (refusal k) e
+
+-- what an answer leaves does not depend on whether the report named its mark
+any-name : (o : Option ℕ) (kind : ℕ) (a : model.Answer) (s : State) → after (report kind) a s ≡ after (reportTo o kind) a s
+unfolding model.after
+any-name o kind (movement x) s = refl
+any-name o kind (mark k j) s = refl
+any-name o kind (theEnd k) s = refl
+any-name o kind taken s = refl
+any-name o kind (refusal k) s = refl
+
+-- so where it is answered as one that names none, it is that report
+pub report-named : (o : Option ℕ) (kind : ℕ) (s : State) (r : Reported) → answerOf (reportTo o kind) s ≡ answerOf (report kind) s
+    → ReportIs (report kind) (answerOf (report kind) s) s r → ReportIs (reportTo o kind) (answerOf (reportTo o kind) s) s r
+report-named o kind s r e h = record {
+  answer = h .answer ∙ ap toldOf (sym e);
+  state = h .state ∙ any-name o kind (answerOf (report kind) s) s ∙ ap (λ a. after (reportTo o kind) a s) (sym e);
+}
+
+-- where no mark stands, none stands for any report
+pub unheard : (o : Option ℕ) {kind : ℕ} {s : State} {r : Reported} → UnheardIs kind s r → s .standing ≡ false
+    → ReportIs (reportTo o kind) (answerOf (reportTo o kind) s) s r
+unheard o {s = s} h st = h o (stands-none (settingOf s) (momentOf s) o st)
 
 -- a report by the number of its kind
 pub report-kind : (j k : ℕ) (s : State) (r : Reported) → k ≡ j → ReportIs (report j) (answerOf (report j) s) s r → ReportIs (report k) (answerOf (report k) s) s r

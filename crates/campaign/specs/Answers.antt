@@ -2,18 +2,22 @@
 -- Assumes nothing.
 use Prim.Native.Nat.{ℕ}
 use mathlib.Core.Path.{_≡_}
+use mathlib.Core.Bool.{false}
 use mathlib.Core.List.{List}
+use mathlib.Core.Option.{Option, none, some}
 use Rattle.words.specs.Told.{Told, accepted, then}
 use Rattle.words.specs.Meaning.{orderOf, refusalOf, outcomeTold}
 use Rattle.promise.specs.Campaign as model
-use Rattle.promise.specs.Campaign.{Call, movement, mark, theEnd, taken}
+use Rattle.promise.specs.Campaign.{Call, reportTo, movement, mark, theEnd, taken, standsFor}
 use Rattle.plans.specs.Calls.{readPlanOf}
-use Rattle.campaign_state.specs.State.{width}
+use Rattle.campaign_state.specs.State.{width, settingOf, momentOf}
 use Rattle.campaign_state.specs.declared.State.{State}
-use Rattle.campaign.specs.Calls.{toldOf, after, begunOf}
+use Rattle.campaign.specs.Calls.{answerOf, toldOf, after, begunOf}
 use Rattle.campaign.specs.declared.Begun.{Begun}
 use Rattle.campaign.specs.declared.Requested.{Requested}
 use Rattle.campaign.specs.declared.Reported.{Reported}
+use Rattle.campaign.specs.declared.reports.On.{On}
+use Rattle.campaign.specs.declared.reports.On.the-variants.{Standing, Number}
 use Rattle.campaign.specs.declared.Answer.{Answer}
 use Rattle.campaign.specs.declared.Answer.the-variants.{Movement, Mark, End, Refused as Answer-Refused}
 use Rattle.words.specs.declared.Outcome.{Outcome}
@@ -24,6 +28,11 @@ answerTold (Movement o) = accepted (movement (orderOf o))
 answerTold (Mark k r) = accepted (mark k r)
 answerTold (End k) = accepted (theEnd k)
 answerTold (Answer-Refused f) = refusalOf f
+
+-- the number that a report names, if it names one
+abbrev pub onIs : On → Option ℕ
+onIs Standing = none
+onIs (Number m) = some m
 
 -- of a report: taken, or refused
 abbrev pub heardTold : Outcome → Told model.Answer
@@ -40,6 +49,11 @@ pub record RequestIs (c : Call) (a : model.Answer) (s : State) (r : Requested) :
 pub record ReportIs (c : Call) (a : model.Answer) (s : State) (r : Reported) : Type 0 where
   pub answer : heardTold (r .answer) ≡ toldOf a
   pub state : r .campaign .state ≡ after c a s
+
+-- r answers every report of a kind for which no mark stands in s
+abbrev pub UnheardIs : ℕ → State → Reported → Type 0
+UnheardIs kind s r =
+    (o : Option ℕ) → standsFor (settingOf s) o (momentOf s) ≡ false → ReportIs (reportTo o kind) (answerOf (reportTo o kind) s) s r
 
 -- r is what a text begins: how it is judged, and the campaign's first state
 pub record BeginIs (t : List ℕ) (r : Begun) : Type 0 where

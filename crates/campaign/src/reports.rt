@@ -7,20 +7,27 @@ use crate::Reported;
 use campaign_state::State;
 use campaign_state::judging::Stance;
 use campaign_state::judging::judge;
+use campaign_state::marks::mark_number;
 use plan_rules::leg_at;
 use words::Outcome;
 use words::Reason;
 use words::limits::MOST_ERRORS;
 use words::refusals::nowhere;
 ghost use mathlib.Core.Path.{_≡_};
-ghost use mathlib.Core.Bool.{true, false};
+ghost use mathlib.Core.Bool.{true};
 ghost use Rattle.words.specs.declared.Place.the-variants.{Nowhere};
-ghost use Rattle.promise.specs.Campaign.{report, closed};
+ghost use Rattle.promise.specs.Campaign.{reportTo, report, reportOn, standsFor, closed};
 ghost use Rattle.campaign_state.specs.State.{settingOf, momentOf, atMoment};
 ghost use Rattle.campaign_state.specs.Fitness.{fit, InPlan};
 ghost use Rattle.words.specs.declared.Outcome.the-variants.{Accepted, Refused};
 ghost use Rattle.campaign.specs.Calls.{answerOf};
-ghost use Rattle.campaign.specs.Answers.{ReportIs};
+ghost use Rattle.campaign.specs.Answers.{onIs, ReportIs, UnheardIs};
+
+// The mark that a report is on: the one that stands, whichever it is, or the one with a number.
+pub enum On {
+    Standing,
+    Number(u64),
+}
 
 // The mark is closed: on to the next step, or to step 0 of the next leg; at the plan's last mark leg and step stay and the end is shown.
 fn closed_mark(s: State) -> State
@@ -94,15 +101,44 @@ fn of_mark(s: State, kind: u8) -> Reported
     }
 }
 
-// A report where no mark stands.
+// A report for which no mark stands.
 fn of_none(s: State, kind: u8) -> Reported
-    requires { ⌜ (fit s ≡ true) × (s .standing ≡ false) ⌝ }
-    ensures { λ r. ⌜ ReportIs (report kind) (answerOf (report kind) s) s r ⌝ }
+    requires { ⌜ fit s ≡ true ⌝ }
+    ensures { λ r. ⌜ UnheardIs kind s r ⌝ }
 {
     if GAVE_UP < kind {
         return refused(s, Reason::Kind);
     }
     refused(s, Reason::NoMark)
+}
+
+// Whether the mark that stands is the one that a report is on.
+fn stands_for(s: State, on: On) -> bool
+    requires { ⌜ (fit s ≡ true) × (s .standing ≡ true) ⌝ }
+    ensures { λ r. ⌜ r ≡ standsFor (settingOf s) (onIs on) (momentOf s) ⌝ }
+{
+    match on {
+        On::Standing => true,
+        On::Number(mark) => mark == mark_number(s),
+    }
+}
+
+// A report on a state: refused if that is unfit, or if no mark stands that it is on.
+fn reported(s: State, on: On, kind: u8) -> Reported
+    ensures { λ r. ⌜ ReportIs (reportTo (onIs on) kind) (answerOf (reportTo (onIs on) kind) s) s r ⌝ }
+{
+    match judge(s) {
+        Stance::Unfit => refused(s, Reason::Unfit),
+        Stance::AtMark => {
+            if stands_for(s, on) {
+                return of_mark(s, kind);
+            }
+            of_none(s, kind)
+        }
+        Stance::AtEnd => of_none(s, kind),
+        Stance::Clear => of_none(s, kind),
+        Stance::Next(_) => of_none(s, kind),
+    }
 }
 
 impl Campaign {
@@ -111,12 +147,14 @@ impl Campaign {
         ensures { λ r. ⌜ ReportIs (report kind) (answerOf (report kind) (self .state)) (self .state) r ⌝ }
     {
         let s = self.state;
-        match judge(s) {
-            Stance::Unfit => refused(s, Reason::Unfit),
-            Stance::AtMark => of_mark(s, kind),
-            Stance::AtEnd => of_none(s, kind),
-            Stance::Clear => of_none(s, kind),
-            Stance::Next(_) => of_none(s, kind),
-        }
+        reported(s, On::Standing, kind)
+    }
+
+    // What it says of the mark with this number: the report if that mark stands, else it is refused.
+    pub fn report_mark(self, mark: u64, kind: u8) -> Reported
+        ensures { λ r. ⌜ ReportIs (reportOn mark kind) (answerOf (reportOn mark kind) (self .state)) (self .state) r ⌝ }
+    {
+        let s = self.state;
+        reported(s, On::Number(mark), kind)
     }
 }

@@ -4,13 +4,12 @@ use crate::Campaign;
 use crate::Requested;
 use campaign_state::State;
 use campaign_state::judging::Stance;
-use campaign_state::judging::closed_marks;
 use campaign_state::judging::judge;
-use campaign_way::along::rank_along;
+use campaign_state::marks::closed_marks;
+use campaign_state::marks::mark_rank;
 use line_writer::answers::Written;
 use line_writer::order_lines::write_line;
 use pattern_carry::panels::after_order;
-use plan_rules::leg_at;
 use words::Line;
 use words::Order;
 use words::Reason;
@@ -35,10 +34,7 @@ fn next_mark(s: State) -> Line
     requires { ⌜ InPlan s ⌝ }
     ensures { λ r. ⌜ r ≡ Mark (closedMarks (settingOf s) (momentOf s)) (rankOf (settingOf s) (momentOf s)) ⌝ }
 {
-    let plan = s.plan;
-    let l = leg_at(plan, s.leg);
-    let rank = rank_along(plan.ports, l.start, l.back, s.step);
-    Line::Mark(closed_marks(s), rank)
+    Line::Mark(closed_marks(s), mark_rank(s))
 }
 
 // The state after a movement order, which counts as carried out.

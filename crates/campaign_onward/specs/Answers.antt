@@ -1,13 +1,21 @@
--- What an answer of the call says.
+-- What an answer of each call says.
 -- Assumes nothing.
 use Prim.Native.Nat.{ℕ}
 use mathlib.Core.Path.{_≡_}
 use mathlib.Core.List.{List}
-use Rattle.words.specs.Told.{Told}
-use Rattle.words.specs.Meaning.{outcomeTold}
+use Rattle.words.specs.Told.{Told, accepted}
+use Rattle.words.specs.Meaning.{refusalOf, outcomeTold}
 use Rattle.campaign_state.specs.declared.State.{State}
 use Rattle.campaign_onward.specs.Calls.{panelIn, resumeOf, goesOn}
 use Rattle.campaign_onward.specs.declared.Resumed.{Resumed}
+use Rattle.campaign_onward.specs.declared.Whereabouts.{Whereabouts}
+use Rattle.campaign_onward.specs.declared.Where.{Where}
+use Rattle.campaign_onward.specs.declared.Where.the-variants.{At, Refused}
+
+-- where it is, or a refusal
+abbrev pub statusTold : Where → Told Whereabouts
+statusTold (At w) = accepted w
+statusTold (Refused f) = refusalOf f
 
 -- r tells x, and its state is t if that is accepted, else s
 pub record GoesIs (x : Told (Unit {0})) (t s : State) (r : Resumed) : Type 0 where

@@ -1,4 +1,4 @@
--- Going on after a power cut: a state that was saved, and the panel as it was read back. What the call tells, and the state that it leaves.
+-- Where a campaign is; and going on after a power cut: a state that was saved, and the panel as it was read back. What the calls tell, and the state that is left.
 -- Assumes nothing.
 use Prim.Native.Nat.{ℕ}
 use mathlib.Core.Bool.{false, cond, _&&_}
@@ -9,8 +9,32 @@ use Rattle.listing.specs.Limits.{mostPorts}
 use Rattle.words.specs.Told.{Told, accepted, refused, nowhere, then}
 use Rattle.words.specs.Padded.{padded}
 use Rattle.pattern_check.specs.Calls.{checkAs}
+use Rattle.promise.specs.Plan.{marks}
+use Rattle.promise.specs.Campaign.{rankOf, numberOf}
+use Rattle.plan_rules.specs.Rules.{legsOf}
+use Rattle.campaign_state.specs.State.{settingOf, momentOf}
 use Rattle.campaign_state.specs.Fitness.{fit}
 use Rattle.campaign_state.specs.declared.State.{State}
+use Rattle.campaign_onward.specs.declared.Whereabouts.{Whereabouts}
+
+-- ---- where it is
+
+-- the plan's marks; the number and rank of its mark, the one that stands, or else is next, or after the end is the last; whether it stands, whether the end is
+-- shown
+abbrev pub whereOf : State → Whereabouts
+whereOf s = record {
+  marks = marks (legsOf (s .plan));
+  number = numberOf (settingOf s) (momentOf s);
+  rank = rankOf (settingOf s) (momentOf s);
+  standing = s .standing;
+  ended = s .ended;
+}
+
+-- 15, at no place, unless the state is fit
+unfoldable pub statusOf : State → Told Whereabouts
+statusOf s = cond (fit s) (accepted (whereOf s)) (refused 15 nowhere)
+
+-- ---- going on
 
 -- the state with these places for its panel
 abbrev pub withPlaces : List ℕ → State → State

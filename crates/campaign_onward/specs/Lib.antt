@@ -1,3 +1,3 @@
--- What going on tells and leaves; what an answer of the call says.
+-- Where a campaign is, what going on tells and leaves; what an answer of each call says.
 pub mod Calls
 pub mod Answers

@@ -1,8 +1,11 @@
-// Going on after a power cut: a saved campaign with the panel as it was read back.
+// Where a campaign is, and going on after a power cut: a saved campaign with the panel as it was read back.
 use campaign::Campaign;
 use campaign_state::State;
 use campaign_state::judging::Stance;
 use campaign_state::judging::judge;
+use campaign_state::marks::mark_number;
+use campaign_state::marks::mark_rank;
+use campaign_state::marks::plan_marks;
 use pattern_carry::panels::load;
 use pattern_check::checking::check_panel;
 use words::Outcome;
@@ -15,9 +18,25 @@ ghost use lib.ListN.{length};
 ghost use Rattle.words.specs.Meaning.{refusalOf};
 ghost use Rattle.words.specs.Told.{accepted};
 ghost use Rattle.listing.specs.Limits.{mostPorts};
-ghost use Rattle.campaign_state.specs.Fitness.{fit};
-ghost use Rattle.campaign_onward.specs.Calls.{panelIn, fitTold};
-ghost use Rattle.campaign_onward.specs.Answers.{ResumeIs, GoesIs};
+ghost use Rattle.campaign_state.specs.Fitness.{fit, InPlan};
+ghost use Rattle.campaign_onward.specs.Calls.{whereOf, statusOf, panelIn, fitTold};
+ghost use Rattle.campaign_onward.specs.Answers.{statusTold, ResumeIs, GoesIs};
+
+// Where a campaign is: the plan's marks; the number, from 0, and the rank of the mark that stands, or else of the next, or after the end of the last; whether
+// that mark stands; whether the end is shown.
+pub struct Whereabouts {
+    pub marks: u64,
+    pub number: u64,
+    pub rank: u64,
+    pub standing: bool,
+    pub ended: bool,
+}
+
+// What is answered to the question where a campaign is.
+pub enum Where {
+    At(Whereabouts),
+    Refused(Refusal),
+}
 
 // Whether a campaign goes on from a panel, and the campaign that does: with that panel, or as it was.
 pub struct Resumed {
@@ -46,6 +65,31 @@ fn is_fit(s: State) -> bool
         Stance::Clear => true,
         Stance::Next(_) => true,
     }
+}
+
+// Where a fit state is.
+fn located(s: State) -> Whereabouts
+    requires { ⌜ InPlan s ⌝ }
+    ensures { λ r. ⌜ r ≡ whereOf s ⌝ }
+{
+    Whereabouts {
+        marks: plan_marks(s),
+        number: mark_number(s),
+        rank: mark_rank(s),
+        standing: s.standing,
+        ended: s.ended,
+    }
+}
+
+// Where a campaign is; refused if its state is unfit.
+pub fn status(c: Campaign) -> Where
+    ensures { λ r. ⌜ statusTold r ≡ statusOf (c .state) ⌝ }
+{
+    let s = c.state;
+    if is_fit(s) {
+        return Where::At(located(s));
+    }
+    Where::Refused(nowhere(Reason::Unfit))
 }
 
 // The state with a panel put in.

@@ -11,7 +11,7 @@ use lib.ListN.{length, take, drop, length-append, length-drop}
 use lib.Seq.{length-take-le, take-append-seam, drop-append-seam}
 use Rattle.listing.proofs.Panels.{length-carry}
 use Rattle.promise.specs.Campaign as model
-use Rattle.promise.specs.Campaign.{Setting, Call, request, report, Report, reportOf, isClosing, tallied, withMark, placed}
+use Rattle.promise.specs.Campaign.{Setting, Call, request, reportTo, Report, reportOf, isClosing, tallied, withMark, placed}
 use Rattle.promise.specs.Campaign.{Answer, movement, mark, theEnd, taken, refusal, here, answer, closed, heard, after}
 use Rattle.promise.specs.Bench.{Turn, run, leaves}
 use Rattle.plan_rules.specs.Planned.{device}
@@ -53,7 +53,7 @@ after-length C c (movement o) m = length-carry o (m .panel)
 after-length C c (mark k r) m = refl
 after-length C c (theEnd k) m = refl
 after-length C (request room) taken m = refl
-after-length C (report kind) taken m = ap length (heard-panel C (reportOf kind) m)
+after-length C (reportTo o kind) taken m = ap length (heard-panel C (reportOf kind) m)
 after-length C c (refusal k) m = refl
 
 -- ---- a state at another moment

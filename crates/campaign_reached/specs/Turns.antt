@@ -2,10 +2,11 @@
 -- Assumes nothing.
 use Prim.Native.Nat.{ℕ}
 use mathlib.Core.List.{List, [], _∷_}
+use mathlib.Core.Option.{Option}
 use mathlib.Core.Path.{_≡_}
 use lib.ListN.{length}
 use Rattle.words.specs.Told.{accepted}
-use Rattle.promise.specs.Campaign.{Setting, Call, request, report}
+use Rattle.promise.specs.Campaign.{Setting, Call, request, reportTo}
 use Rattle.promise.specs.Bench.{Turn}
 use Rattle.promise.specs.Derangements.{onPorts}
 use Rattle.plans.specs.Calls.{readPlanOf}
@@ -28,15 +29,15 @@ campaignOf P = onPorts (P .plan .ports) (P .plan .legs) width
 abbrev pub begun : AcceptedPlan → State
 begun P = begunOf (P .text)
 
--- a call of the bench: a request with the bytes of the lent buffer, or a report with its kind
+-- a call of the bench: a request with the bytes of the lent buffer; or a report with the number of the mark that it names, if it names one, and its kind
 pub data Called : Type 0 where
   asks : List ℕ → Called
-  tells : ℕ → Called
+  tells : Option ℕ → ℕ → Called
 
 -- the same as the model has it: of the buffer only its room counts
 abbrev pub callOf : Called → Call
 callOf (asks buf) = request (length buf)
-callOf (tells kind) = report kind
+callOf (tells o kind) = reportTo o kind
 
 -- 'any calls, each on the state the last one left': the turns that the contracts determine, from state s on
 unfoldable pub turnsOf : List Called → State → List Turn

@@ -16,7 +16,7 @@ use Rattle.listing.specs.Listing.{at}
 use Rattle.listing.specs.Limits.{mostPorts, mostLegs, largest64}
 use Rattle.promise.specs.Tests.{same}
 use Rattle.promise.specs.Plan.{legAt, stepped, marks}
-use Rattle.promise.specs.Campaign.{here, rankOf, wanted, closedMarks}
+use Rattle.promise.specs.Campaign.{here, rankOf, numberOf, wanted}
 use Rattle.promise.specs.Derangements.{derangements}
 use Rattle.promise.proofs.Tests.{Tells, tells-and, tells-eqb}
 use Rattle.pattern_carry.specs.Panels.{wrongFrom}
@@ -122,12 +122,13 @@ module _ (s : State) (z : Sized s) (I : InPlan s) where
       let fits = marks-fit (s .plan) (rules s z (I .places)) (s .leg + 1) (omega (arith, leg-below, few-legs)) in
       omega (arith, more, fits, I .step)
 
-  -- the marks that are closed
-  pub closed-all : s .ended ≡ true → marks (take (s .plan .legs) (legsOf (s .plan))) ≡ closedMarks (settingOf s) (momentOf s)
-  closed-all e = marks-all (legsOf (s .plan)) (s .plan .legs) (sym (many-legs s z (I .places))) ∙ rw e refl
+  -- it is that of the marks of the legs before, and the step
+  pub number-so : marks (take (s .leg) (legsOf (s .plan))) + s .step ≡ numberOf (settingOf s) (momentOf s)
+  number-so = sym (number-before (legsOf (s .plan)) (s .leg) (s .step) (I .leg))
 
-  pub closed-some : s .ended ≡ false → marks (take (s .leg) (legsOf (s .plan))) + s .step ≡ closedMarks (settingOf s) (momentOf s)
-  closed-some e = sym (number-before (legsOf (s .plan)) (s .leg) (s .step) (I .leg)) ∙ rw e refl
+  -- the marks of all legs are the plan's
+  pub all-marks : marks (take (s .plan .legs) (legsOf (s .plan))) ≡ marks (legsOf (s .plan))
+  all-marks = marks-all (legsOf (s .plan)) (s .plan .legs) (sym (many-legs s z (I .places)))
 
   -- the panel has the pattern of the mark exactly if no jack is wrong (t: that pattern, r: its rank, w: the first wrong jack)
   pub same-pattern : (l : Leg) → IsLeg s l → (r : ℕ) (t : List ℕ) (w : ℕ)

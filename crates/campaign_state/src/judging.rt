@@ -1,12 +1,12 @@
 // Where a state stands. Every state that the type can hold is judged, and no sum wraps.
 use crate::State;
+use crate::marks::closed_marks;
 use campaign_way::ToCome;
 use campaign_way::along::rank_along;
 use campaign_way::coming::coming;
 use pattern_carry::panels::first_wrong;
 use pattern_ranks::unranking::pattern_of;
 use plan_rules::leg_at;
-use plan_rules::marks_before;
 use plan_rules::plan_ruled;
 use words::Leg;
 use words::Order;
@@ -15,7 +15,7 @@ use words::limits::MOST_ERRORS;
 ghost use mathlib.Core.Path.{_≡_};
 ghost use mathlib.Core.Bool.{true};
 ghost use Rattle.promise.specs.Tests.{same};
-ghost use Rattle.promise.specs.Campaign.{wanted, closedMarks};
+ghost use Rattle.promise.specs.Campaign.{wanted};
 ghost use Rattle.campaign_state.specs.State.{settingOf, momentOf};
 ghost use Rattle.campaign_state.specs.Fitness.{emptyFrom, placesFit, InPlan, IsLeg, countsRight, endRight};
 ghost use Rattle.campaign_state.specs.Standing.{stanceIs, panelStand, standOf};
@@ -53,18 +53,6 @@ fn places_fit(s: State) -> bool
         return empty_from(plan.ports, panel);
     }
     false
-}
-
-// How many marks are closed: those before the standing or next one; after the end all.
-pub fn closed_marks(s: State) -> u64
-    requires { ⌜ InPlan s ⌝ }
-    ensures { λ r. ⌜ r ≡ closedMarks (settingOf s) (momentOf s) ⌝ }
-{
-    let plan = s.plan;
-    if s.ended {
-        return marks_before(plan, plan.legs);
-    }
-    marks_before(plan, s.leg) + s.step
 }
 
 // Whether covered plus open is as many.

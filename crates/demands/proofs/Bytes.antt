@@ -107,7 +107,7 @@ line-front room taken xs = refl
 line-front room (refusal k) xs = refl
 
 -- a report leaves the panel
-report-leaves : {C : Setting} {m m' : model.State} {kind : ℕ} {a : Answer} → Does C m (report kind) a m' → m .panel ≡ m' .panel
+report-leaves : {C : Setting} {m m' : model.State} {o : Option ℕ} {kind : ℕ} {a : Answer} → Does C m (reportTo o kind) a m' → m .panel ≡ m' .panel
 report-leaves (closes st cl x) = sym (closed-so x .panel)
 report-leaves (errs st lt) = refl
 report-leaves (refuses k n) = refl
@@ -141,9 +141,9 @@ module _ (P : AcceptedPlan) where
       let o = obeyed-there s R buf in
       let later = meets-from cs (leftOf (request (length buf)) s) (reached-left P s R (request (length buf))) in
       (o .0, subst (λ q. RobotMeets (P .plan .ports) q cs (leftOf (request (length buf)) s)) (sym (o .1)) later)
-  meets-from (tells kind ∷ cs) s R =
-      subst (λ q. RobotMeets (P .plan .ports) q cs (leftOf (report kind) s)) (sym (report-leaves (does-there P s R (report kind))))
-      (meets-from cs (leftOf (report kind) s) (reached-left P s R (report kind)))
+  meets-from (tells m kind ∷ cs) s R =
+      let c = reportTo m kind in
+      subst (λ q. RobotMeets (P .plan .ports) q cs (leftOf c s)) (sym (report-leaves (does-there P s R c))) (meets-from cs (leftOf c s) (reached-left P s R c))
 
   -- and so it sees what happens on the bench
   pub sees-from : (cs : List Called) (s : State) → Reached P s → robotActs cs s ≡ acts (turnsOf cs s)
@@ -155,8 +155,8 @@ module _ (P : AcceptedPlan) where
       seen-line (P .plan .ports) (answerLine (answerOf c s)) buf (bytesOf s buf) (momentOf s .panel) xs (obeyed-there s R buf .0)
       ∙ line-front (length buf) (answerOf c s) xs
       ∙ ap (inFront c (answerOf c s)) (sees-from cs (leftOf c s) (reached-left P s R c))
-  sees-from (tells kind ∷ cs) s R =
-      let c = report kind in ap (inFront c (answerOf c s)) (sees-from cs (leftOf c s) (reached-left P s R c))
+  sees-from (tells m kind ∷ cs) s R =
+      let c = reportTo m kind in ap (inFront c (answerOf c s)) (sees-from cs (leftOf c s) (reached-left P s R c))
 
   module _ (cs : List Called) where
     -- a robot that starts at home and reads nothing but the bytes obeys every line, and meets every mark's pattern

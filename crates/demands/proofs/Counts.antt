@@ -14,7 +14,7 @@ use Rattle.words.proofs.Told.{then-accepted}
 use Rattle.words.proofs.Padded.{padded-length}
 use Rattle.pattern_check.specs.Calls.{checkAs}
 use Rattle.promise.specs.Campaign as model
-use Rattle.promise.specs.Campaign.{Setting, Call, request, report, reportOf, tallied, Answer, movement, mark, theEnd, taken, refusal, closed, heard}
+use Rattle.promise.specs.Campaign.{Setting, Call, request, reportTo, report, reportOf, tallied, Answer, movement, mark, theEnd, taken, refusal, closed, heard}
 use Rattle.campaign_state.specs.State.{settingOf, momentOf}
 use Rattle.campaign_state.specs.declared.State.{State}
 use Rattle.campaign_state.proofs.Places.{Sized}
@@ -53,11 +53,11 @@ after-covered (request room) (mark k r) s = omega arith
 after-covered (request room) (theEnd k) s = omega arith
 after-covered (request room) taken s = omega arith
 after-covered (request room) (refusal k) s = omega arith
-after-covered (report kind) (movement o) s = omega arith
-after-covered (report kind) (mark k r) s = omega arith
-after-covered (report kind) (theEnd k) s = omega arith
-after-covered (report kind) taken s = heard-covered (settingOf s) kind (momentOf s)
-after-covered (report kind) (refusal k) s = omega arith
+after-covered (reportTo m kind) (movement o) s = omega arith
+after-covered (reportTo m kind) (mark k r) s = omega arith
+after-covered (reportTo m kind) (theEnd k) s = omega arith
+after-covered (reportTo m kind) taken s = heard-covered (settingOf s) kind (momentOf s)
+after-covered (reportTo m kind) (refusal k) s = omega arith
 
 left-covered : (c : Call) (s : State) → leftOf c s .covered ≡ raised c (answerOf c s) + s .covered
 unfolding leftOf
@@ -85,7 +85,7 @@ told-raised c (mark k r) = refl
 told-raised c (theEnd k) = refl
 told-raised c taken = refl
 told-raised (request room) (refusal k) = refl
-told-raised (report kind) (refusal k) = refl
+told-raised (reportTo m kind) (refusal k) = refl
 
 words-covered : (c : Call) (ws : List ℕ) → word (calledWords c ws) coveredPlace ≡ raisedBy c (calledTold c ws) + word ws coveredPlace
 unfolding leftOf

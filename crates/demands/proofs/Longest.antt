@@ -49,10 +49,11 @@ unfolding leftAfter
 given-later c s x g = record { calls = c ∷ g .calls; buffer = g .buffer; is = g .is }
 
 -- a report is not answered with a mark
-no-mark-heard : (kind : ℕ) (s : State) (k r : ℕ) → answerOf (report kind) s ≢ mark k r
+no-mark-heard : (m : Option ℕ) (kind : ℕ) (s : State) (k r : ℕ) → answerOf (reportTo m kind) s ≢ mark k r
 unfolding answerOf answer
-no-mark-heard kind s k r =
-    by (placesFit s) (not (fit (settingOf s) (momentOf s))) (ltb 2 kind) (not (s .standing)) (isError (reportOf kind) && leb (settingOf s .limit) (s .errors))
+no-mark-heard m kind s k r =
+    by (placesFit s) (not (fit (settingOf s) (momentOf s))) (ltb 2 kind) (not (standsFor (settingOf s) m (momentOf s)))
+    (isError (reportOf kind) && leb (settingOf s .limit) (s .errors))
   where
     by : (a b c d e : Bool)
         → cond a (cond b (refusal 15) (cond c (refusal 14) (cond d (refusal 12) (cond e (refusal 16) taken)))) (refusal 15) ≢ mark k r
@@ -67,7 +68,7 @@ no-mark-heard kind s k r =
 given-here : (c : Called) (s : State) (k r : ℕ) → answerOf (callOf c) s ≡ mark k r → Given s (k, r)
 unfolding leftAfter
 given-here (asks buf) s k r e = record { calls = []; buffer = buf; is = e }
-given-here (tells kind) s k r e = absurd (no-mark-heard kind s k r e)
+given-here (tells m kind) s k r e = absurd (no-mark-heard m kind s k r e)
 
 -- every mark among xs, repeats struck out, was handed out from s
 abbrev AllGiven : State → List Act → Type 0
@@ -87,7 +88,7 @@ all-given c s (mark k r) xs e h again m i l = by (again && isMark m k r) i l
     by false (suc i) l = given-later c s _ (h false (k, r) i (omega arith))
 all-given c s (theEnd k) xs e h again m i l = given-later c s _ (h again m i l)
 all-given (asks buf) s taken xs e h again m i l = given-later (asks buf) s _ (h again m i l)
-all-given (tells kind) s taken xs e h again m i l = given-later (tells kind) s _ (h (not (isClosing (reportOf kind))) m i l)
+all-given (tells o kind) s taken xs e h again m i l = given-later (tells o kind) s _ (h (not (isClosing (reportOf kind))) m i l)
 all-given c s (refusal k) xs e h again m i l = given-later c s _ (h again m i l)
 
 given-so : (cs : List Called) (s : State) → AllGiven s (acts (turnsOf cs s))

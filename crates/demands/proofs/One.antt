@@ -147,18 +147,27 @@ request-numbers room s =
     (answer-cond ofRequest (ltb room (C .width (offer C m))) _ _ (answer-refusal ofRequest 2 (inr (inr (inl refl)))) (offer-numbers ofRequest (inl refl) C m))))
     (answer-refusal ofRequest 15 (inl refl))
 
-report-numbers : (kind : ℕ) (s : State) → RefusesAs ofReport (answerOf (report kind) s)
+report-numbers : (o : Option ℕ) (kind : ℕ) (s : State) → RefusesAs ofReport (answerOf (reportTo o kind) s)
 unfolding answerOf answer
-report-numbers kind s =
+report-numbers o kind s =
     let C = settingOf s in
     let m = momentOf s in
     answer-cond ofReport (placesFit s) _ _
     (answer-cond ofReport (not (model.fit C m)) _ _ (answer-refusal ofReport 15 (inl refl))
     (answer-cond ofReport (ltb 2 kind) _ _ (answer-refusal ofReport 14 (inr (inl refl)))
-    (answer-cond ofReport (not (m .standing)) _ _ (answer-refusal ofReport 12 (inr (inr (inl refl))))
+    (answer-cond ofReport (not (standsFor C o m)) _ _ (answer-refusal ofReport 12 (inr (inr (inl refl))))
     (answer-cond ofReport (isError (reportOf kind) && leb (C .limit) (m .errors)) _ _ (answer-refusal ofReport 16 (inr (inr (inr (inl refl)))))
     (λ k e. absurd (true≢false (cc)))))))
     (answer-refusal ofReport 15 (inl refl))
+
+-- a state that is unfit
+status-numbers : (s : State) → Refuses (15 ∷ []) (statusOf s)
+unfolding statusOf
+status-numbers s = by (fit s)
+  where
+    by : (b : Bool) → Refuses (15 ∷ []) (cond b (accepted (whereOf s)) (refused 15 nowhere))
+    by true k p e = absurd (not-both e)
+    by false k p e = inl (refused-eq e)
 
 -- the plan's numbers
 abbrev ofPlan : List ℕ
@@ -227,7 +236,9 @@ demand-one = record {
   writeLine = write-numbers;
   writeKeeps = λ l buf. kept (writeOf mostPorts l buf) _ buf;
   asked = request-numbers;
-  reported = report-numbers;
+  reported = report-numbers none;
+  reportedMark = λ m. report-numbers (some m);
+  status = status-numbers;
   stateKeeps = state-kept;
   bufferKeeps = buffer-kept;
   resume = resume-numbers;

@@ -54,8 +54,8 @@ asked-so bytes xs (refuses zero n) h = absurd (h refl)
 asked-so bytes xs (refuses (suc k) n) h = refl
 
 -- a report: said where it was taken
-said-so : {C : model.Setting} {m m' : model.State} {kind : ℕ} {a : Answer} (xs : List Act) → Does C m (report kind) a m'
-    → (a ≡ refusal 0 → ⊥) → toldIn kind (numberTold (toldOf a)) xs ≡ inFront (report kind) a xs
+said-so : {C : model.Setting} {m m' : model.State} {o : Option ℕ} {kind : ℕ} {a : Answer} (xs : List Act) → Does C m (reportTo o kind) a m'
+    → (a ≡ refusal 0 → ⊥) → toldIn kind (numberTold (toldOf a)) xs ≡ inFront (reportTo o kind) a xs
 said-so xs (closes st cl x) h = refl
 said-so xs (errs st lt) h = refl
 said-so xs (refuses zero n) h = absurd (h refl)
@@ -71,8 +71,9 @@ not-zero (n ∷ ns) (inr h) = not-zero ns h
 asked-some : (room : ℕ) (s : State) → answerOf (request room) s ≡ refusal 0 → ⊥
 asked-some room s e = not-zero (14 ∷ 12 ∷ 1 ∷ []) (demand-one .asked room s 0 e)
 
-said-some : (kind : ℕ) (s : State) → answerOf (report kind) s ≡ refusal 0 → ⊥
-said-some kind s e = not-zero (14 ∷ 13 ∷ 11 ∷ 15 ∷ []) (demand-one .reported kind s 0 e)
+said-some : (m : Option ℕ) (kind : ℕ) (s : State) → answerOf (reportTo m kind) s ≡ refusal 0 → ⊥
+said-some none kind s e = not-zero (14 ∷ 13 ∷ 11 ∷ 15 ∷ []) (demand-one .reported kind s 0 e)
+said-some (some m) kind s e = not-zero (14 ∷ 13 ∷ 11 ∷ 15 ∷ []) (demand-one .reportedMark m kind s 0 e)
 
 -- ---- any calls on words of a state that calls leave
 
@@ -113,11 +114,11 @@ module _ (P : AcceptedPlan) where
       ∙ ap (λ b. askedIn (numberTold (toldOf (answerOf c s))) b xs) (bytes-there P ws s r buf)
       ∙ asked-so (bytesOf s buf) xs (does-there P s (r .reached) c) (asked-some (length buf) s)
       ∙ ap (askedActs (answerLine (answerOf c s)) (bytesOf s buf)) (robot-read cs (calledWords c ws) (leftOf c s) (read-left P ws s r c))
-  robot-read (tells kind ∷ cs) ws s r =
-      let c = report kind in
+  robot-read (tells m kind ∷ cs) ws s r =
+      let c = reportTo m kind in
       let xs = robotIn cs (calledWords c ws) in
       ap (λ t. toldIn kind (numberTold t) xs) (told-there P ws s r c)
-      ∙ said-so xs (does-there P s (r .reached) c) (said-some kind s)
+      ∙ said-so xs (does-there P s (r .reached) c) (said-some m kind s)
       ∙ ap (inFront c (answerOf c s)) (robot-read cs (calledWords c ws) (leftOf c s) (read-left P ws s r c))
 
   -- ---- from `jidrofex_begin` on

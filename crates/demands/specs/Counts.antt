@@ -4,7 +4,7 @@ use Prim.Native.Nat.{ℕ, zero, suc, _+_}
 use mathlib.Core.Path.{_≡_}
 use mathlib.Core.List.{List}
 use Rattle.words.specs.Told.{Told, accepted, refused}
-use Rattle.promise.specs.Campaign.{Call, request, report, Answer, movement, mark, theEnd, taken, refusal}
+use Rattle.promise.specs.Campaign.{Call, request, reportTo, Answer, movement, mark, theEnd, taken, refusal}
 use Rattle.campaign_state.specs.declared.State.{State}
 use Rattle.campaign.specs.Calls.{answerOf, leftOf, begunOf}
 use Rattle.campaign_onward.specs.Calls.{resumedOf}
@@ -27,7 +27,7 @@ ifTaken n (refusal k) = 0
 -- what a call with this answer adds to covered: one for a report of kind 0 that was taken, else nothing
 abbrev pub raised : Call → Answer → ℕ
 raised (request room) a = 0
-raised (report kind) a = ifTaken (ranAdds kind) a
+raised (reportTo m kind) a = ifTaken (ranAdds kind) a
 
 -- the same by what is told
 abbrev pub raisedBy : Call → Told Answer → ℕ
@@ -42,7 +42,7 @@ pub record OnlyReportsRaise : Type 0 where
   pub resumed : (s : State) (p : List ℕ) → resumedOf s p .covered ≡ s .covered
   -- the beginning
   pub first : (t : List ℕ) → begunOf t .covered ≡ 0
-  -- the same of the words for C: jidrofex_request and jidrofex_report
+  -- the same of the words for C: jidrofex_request, jidrofex_report and jidrofex_report_mark
   pub words : (c : Call) (ws : List ℕ) → word (calledWords c ws) coveredPlace ≡ raisedBy c (calledTold c ws) + word ws coveredPlace
   -- and jidrofex_resume
   pub resumedWords : (p ws : List ℕ) → word (resumeWords p ws) coveredPlace ≡ word ws coveredPlace

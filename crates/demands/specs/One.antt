@@ -17,11 +17,11 @@ use Rattle.panel.specs.Calls.{portOf, jackOf, carryOf, carryBytes}
 use Rattle.line_format.specs.Calls.{writeOf, writeBytes}
 use Rattle.line_format.specs.Reading.{readOf}
 use Rattle.plans.specs.Calls.{readPlanOf}
-use Rattle.promise.specs.Campaign.{Answer, refusal, Call, request, report}
+use Rattle.promise.specs.Campaign.{Answer, refusal, Call, request, report, reportOn}
 use Rattle.campaign_state.specs.declared.State.{State}
 use Rattle.campaign.specs.Calls.{answerOf, leftOf, bytesOf}
 use Rattle.printing.specs.Printing.{linesIn}
-use Rattle.campaign_onward.specs.Calls.{resumeOf, resumedOf}
+use Rattle.campaign_onward.specs.Calls.{statusOf, resumeOf, resumedOf}
 use Rattle.printing.specs.Rehearsals.{rehearsalOf, stateOf}
 use Rattle.printing.specs.Answers.{fillOf, fillBytes}
 use Rattle.printing.specs.declared.Rehearsal.{Rehearsal}
@@ -68,6 +68,8 @@ pub record DemandOne : Type 0 where
   -- ---- states and reports: 'For the campaign: 15 first, then 14, 12, 13, 16, last 2'
   pub asked : (room : ℕ) (s : State) → RefusesAs (15 ∷ 13 ∷ 2 ∷ []) (answerOf (request room) s)
   pub reported : (kind : ℕ) (s : State) → RefusesAs (15 ∷ 14 ∷ 12 ∷ 16 ∷ []) (answerOf (report kind) s)
+  pub reportedMark : (m kind : ℕ) (s : State) → RefusesAs (15 ∷ 14 ∷ 12 ∷ 16 ∷ []) (answerOf (reportOn m kind) s)
+  pub status : (s : State) → Refuses (15 ∷ []) (statusOf s)
   pub stateKeeps : (c : Call) (s : State) (k : ℕ) → answerOf c s ≡ refusal k → leftOf c s ≡ s
   pub bufferKeeps : (s : State) (buf : List ℕ) (k : ℕ) → answerOf (request (length buf)) s ≡ refusal k → bytesOf s buf ≡ buf
   -- ---- going on after a power cut: the panel's own numbers, then 15

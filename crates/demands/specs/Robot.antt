@@ -63,7 +63,7 @@ RobotMeets n q [] s = Unit {0}
 RobotMeets n q (asks buf ∷ cs) s =
     let l = answerLine (answerOf (request (length buf)) s) in
     Asked n l buf (bytesOf s buf) q × RobotMeets n (panelAfter l (bytesOf s buf) q) cs (leftOf (request (length buf)) s)
-RobotMeets n q (tells kind ∷ cs) s = RobotMeets n q cs (leftOf (report kind) s)
+RobotMeets n q (tells m kind ∷ cs) s = RobotMeets n q cs (leftOf (reportTo m kind) s)
 
 -- ---- what happens on the bench, as the robot sees it
 
@@ -85,4 +85,4 @@ askedActs (some l) bytes xs = seenActs (seen bytes) xs
 unfoldable pub robotActs : List Called → State → List Act
 robotActs [] s = []
 robotActs (asks buf ∷ cs) s = askedActs (answerLine (answerOf (request (length buf)) s)) (bytesOf s buf) (robotActs cs (leftOf (request (length buf)) s))
-robotActs (tells kind ∷ cs) s = inFront (report kind) (answerOf (report kind) s) (robotActs cs (leftOf (report kind) s))
+robotActs (tells m kind ∷ cs) s = let c = reportTo m kind in inFront c (answerOf c s) (robotActs cs (leftOf c s))

@@ -6,7 +6,7 @@ use mathlib.Core.List.{List, [], _∷_}
 use lib.ListN.{length}
 use Rattle.words.specs.Told.{Told, accepted, refused}
 use Rattle.promise.specs.Campaign as model
-use Rattle.promise.specs.Campaign.{request, report, reportOf, Answer, refusal}
+use Rattle.promise.specs.Campaign.{request, reportTo, reportOf, Answer, refusal}
 use Rattle.promise.specs.Bench.{Turn, Act, says}
 use Rattle.campaign_state.specs.State.{momentOf}
 use Rattle.campaign_state.specs.declared.State.{State}
@@ -56,5 +56,5 @@ unfoldable pub robotIn : List Called → List ℕ → List Act
 robotIn [] ws = []
 robotIn (asks buf ∷ cs) ws =
     let c = request (length buf) in askedIn (numberTold (calledTold c ws)) (requestBytes ws buf) (robotIn cs (calledWords c ws))
-robotIn (tells kind ∷ cs) ws =
-    let c = report kind in toldIn kind (numberTold (calledTold c ws)) (robotIn cs (calledWords c ws))
+robotIn (tells m kind ∷ cs) ws =
+    let c = reportTo m kind in toldIn kind (numberTold (calledTold c ws)) (robotIn cs (calledWords c ws))

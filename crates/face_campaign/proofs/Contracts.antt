@@ -8,12 +8,14 @@ use Rattle.words.specs.Contract.{Says}
 use Rattle.promise.specs.Campaign as model
 use Rattle.face_values.specs.Answers.{nothing}
 use Rattle.face_values.specs.Only.{Meets, result}
-use Rattle.face_values.proofs.Meets.{meets-leaving, meets-leaving-both}
-use Rattle.face_laws.specs.Values.{orderAndBytes, bytesAndEnd}
-use Rattle.face_laws.specs.Calls.{calledTold, calledWords, requestBytes, beginTold, beginWords, resumeTold, resumeWords, rehearseTold, rehearseWords, ordersTold, ordersWords, ordersBytes}
+use Rattle.face_values.proofs.Meets.{meets, meets-leaving, meets-leaving-both}
+use Rattle.face_laws.specs.Values.{orderAndBytes, bytesAndEnd, whereWords}
+use Rattle.face_laws.specs.Calls.{calledTold, calledWords, requestBytes, statusIn, beginTold, beginWords, resumeTold, resumeWords, rehearseTold, rehearseWords, ordersTold, ordersWords, ordersBytes}
 use Rattle.face_campaign.proofs.jidrofex_begin.Reads as begin
 use Rattle.face_campaign.proofs.jidrofex_request.Reads as request
 use Rattle.face_campaign.proofs.jidrofex_report.Reads as report
+use Rattle.face_campaign.proofs.jidrofex_report_mark.Reads as report-mark
+use Rattle.face_campaign.proofs.jidrofex_status.Reads as status
 use Rattle.face_campaign.proofs.jidrofex_resume.Reads as resume
 use Rattle.face_campaign.proofs.jidrofex_rehearse.Reads as rehearse
 use Rattle.face_campaign.proofs.jidrofex_orders.Reads as orders
@@ -38,6 +40,17 @@ pub report-says : Says report.Learnt
     let c = model.report kind in
     Meets nothing (calledTold c (now state)) (calledWords c (now state) ∷ []) (result r (now answer) (now left ∷ [])))
 report-says κs a r e h = meets-leaving h
+
+-- jidrofex_report_mark(state: &mut [u64], mark: u64, kind: u8, answer: &mut [u64; 5]) -> u8
+pub report-mark-says : Says report-mark.Learnt
+    (λ κs (state, (mark, (kind, _))) r (left, (_, (_, (answer, _)))).
+    let c = model.reportOn mark kind in
+    Meets nothing (calledTold c (now state)) (calledWords c (now state) ∷ []) (result r (now answer) (now left ∷ [])))
+report-mark-says κs a r e h = meets-leaving h
+
+-- jidrofex_status(state: &[u64], answer: &mut [u64; 5]) -> u8
+pub status-says : Says status.Learnt (λ κs (state, _) r (_, (answer, _)). Meets whereWords (statusIn (now state)) [] (result r (now answer) []))
+status-says κs a r e h = meets h
 
 -- jidrofex_resume(state: &mut [u64], panel: &[u8], answer: &mut [u64; 5]) -> u8
 pub resume-says : Says resume.Learnt

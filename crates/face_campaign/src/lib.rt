@@ -1,7 +1,9 @@
 // The calls for C on a campaign whose state stands in the words of the caller, and on a rehearsal (include/jidrofex.h).
 use campaign::Answer;
 use campaign::Campaign;
+use campaign_onward::Where;
 use campaign_onward::resume;
+use campaign_onward::status;
 use face_state::places::REHEARSAL_WORDS;
 use face_state::places::STATE_WORDS;
 use face_state::rehearsals::rehearsal_in;
@@ -24,12 +26,13 @@ use words::refusals::nowhere;
 ghost use mathlib.Core.Path.{_≡_};
 ghost use mathlib.Core.List.{[], _∷_};
 ghost use lib.ListN.{length};
-ghost use Rattle.promise.specs.Campaign.{request, report};
+ghost use Rattle.promise.specs.Campaign.{request, report, reportOn};
 ghost use Rattle.campaign.specs.Answers.{answerTold};
+ghost use Rattle.campaign_onward.specs.Answers.{statusTold};
 ghost use Rattle.printing.specs.Answers.{filledTold};
 ghost use Rattle.face_values.specs.Answers.{five, numberTold, wordsTold, nothing};
-ghost use Rattle.face_laws.specs.Values.{orderAndBytes, orderThen, bytesAndEnd};
-ghost use Rattle.face_laws.specs.Calls.{calledTold, calledWords, requestBytes, resumeTold, resumeWords, ordersTold, ordersWords, ordersBytes, beginTold, beginWords, rehearseTold, rehearseWords};
+ghost use Rattle.face_laws.specs.Values.{orderAndBytes, orderThen, bytesAndEnd, whereWords};
+ghost use Rattle.face_laws.specs.Calls.{calledTold, calledWords, requestBytes, statusIn, resumeTold, resumeWords, ordersTold, ordersWords, ordersBytes, beginTold, beginWords, rehearseTold, rehearseWords};
 
 // ---- answers
 
@@ -63,6 +66,24 @@ fn give_filled(filled: Filled, answer: &mut [u64; ANSWER_WORDS]) -> u8
         Filled::Lines(n) => give(answer, n as u64, 0, 0, 0, 0),
         Filled::Ended(n) => give(answer, n as u64, 1, 0, 0, 0),
         Filled::Refused(f) => refuse(f, answer),
+    }
+}
+
+// Where a campaign is.
+fn give_where(found: Where, answer: &mut [u64; ANSWER_WORDS]) -> u8
+    ensures number { λ r. ⌜ r ≡ numberTold (statusTold found) ⌝ }
+    ensures words { λ _. ⌜ now (answer .exit) ≡ wordsTold whereWords (statusTold found) ⌝ }
+{
+    match found {
+        Where::Refused(f) => refuse(f, answer),
+        Where::At(w) => give(
+            answer,
+            w.marks,
+            w.number,
+            w.rank,
+            w.standing as u64,
+            w.ended as u64,
+        ),
     }
 }
 
@@ -134,6 +155,45 @@ pub extern "C" fn jidrofex_report(
         state_out(left.state, state);
         let outcome = r.answer;
         return give_outcome(outcome, answer);
+    }
+    unfit(answer)
+}
+
+// What the bench says of the mark with this number.
+#[no_mangle]
+pub extern "C" fn jidrofex_report_mark(
+    state: &mut [u64],
+    mark: u64,
+    kind: u8,
+    answer: &mut [u64; ANSWER_WORDS],
+) -> u8
+    ensures number { λ r. ⌜ r ≡ numberTold (calledTold (reportOn mark kind) (now (state .entry))) ⌝ }
+    ensures words { λ _. ⌜ now (answer .exit) ≡ wordsTold nothing (calledTold (reportOn mark kind) (now (state .entry))) ⌝ }
+    ensures left { λ _. ⌜ now (state .exit) ≡ calledWords (reportOn mark kind) (now (state .entry)) ⌝ }
+{
+    let held = state_in(state);
+    if held.known {
+        let s = held.state;
+        let campaign = Campaign { state: s };
+        let r = campaign.report_mark(mark, kind);
+        let left = r.campaign;
+        state_out(left.state, state);
+        let outcome = r.answer;
+        return give_outcome(outcome, answer);
+    }
+    unfit(answer)
+}
+
+// Where a campaign is.
+#[no_mangle]
+pub extern "C" fn jidrofex_status(state: &[u64], answer: &mut [u64; ANSWER_WORDS]) -> u8
+    ensures number { λ r. ⌜ r ≡ numberTold (statusIn (now (state .entry))) ⌝ }
+    ensures words { λ _. ⌜ now (answer .exit) ≡ wordsTold whereWords (statusIn (now (state .entry))) ⌝ }
+{
+    let held = state_in(state);
+    if held.known {
+        let s = held.state;
+        return give_where(status(Campaign { state: s }), answer);
     }
     unfit(answer)
 }

@@ -8,7 +8,7 @@ use lib.IntN.{ℤ}
 use lib.ListN.{length}
 use Rattle.listing.specs.Limits.{mostPorts, largest64}
 use Rattle.words.specs.Told.{Told}
-use Rattle.promise.specs.Campaign.{request, report}
+use Rattle.promise.specs.Campaign.{request, report, reportOn}
 use Rattle.pattern_check.specs.Calls.{checkAs}
 use Rattle.patterns.specs.Calls.{countOf, rankOf, unrankOf, unrankBytes, besideOf, besideBytes, stepOf}
 use Rattle.panel.specs.Calls.{portOf, jackOf, carryOf, carryBytes}
@@ -17,8 +17,8 @@ use Rattle.line_format.specs.Reading.{readOf}
 use Rattle.face_values.specs.Answers.{nothing, oneNumber}
 use Rattle.face_values.specs.Lines.{moveWords, lineIn}
 use Rattle.face_values.specs.Only.{Only}
-use Rattle.face_laws.specs.Values.{lineAndPlace, orderAndBytes, bytesAndEnd}
-use Rattle.face_laws.specs.Calls.{calledTold, calledWords, requestBytes, ordersTold, ordersWords, ordersBytes, beginTold, beginWords, resumeTold, resumeWords, rehearseTold, rehearseWords}
+use Rattle.face_laws.specs.Values.{lineAndPlace, orderAndBytes, bytesAndEnd, whereWords}
+use Rattle.face_laws.specs.Calls.{calledTold, calledWords, requestBytes, statusIn, ordersTold, ordersWords, ordersBytes, beginTold, beginWords, resumeTold, resumeWords, rehearseTold, rehearseWords}
 
 -- one result meets the clauses of a contract
 only : {A : Type 0} (values : A → List ℕ) (told : Told A) (left : List (List ℕ)) → Only values told left
@@ -81,10 +81,16 @@ only-request ws buf = only _ _ _
 pub only-report : (ws : List ℕ) (kind : ℕ) → Only nothing (calledTold (report kind) ws) (calledWords (report kind) ws ∷ [])
 only-report ws kind = only _ _ _
 
--- ---- a rehearsal
+pub only-report-mark : (ws : List ℕ) (mark kind : ℕ) → Only nothing (calledTold (reportOn mark kind) ws) (calledWords (reportOn mark kind) ws ∷ [])
+only-report-mark ws mark kind = only _ _ _
+
+pub only-status : (ws : List ℕ) → Only whereWords (statusIn ws) []
+only-status ws = only _ _ _
 
 pub only-resume : (p ws : List ℕ) → Only nothing (resumeTold p ws) (resumeWords p ws ∷ [])
 only-resume p ws = only _ _ _
+
+-- ---- a rehearsal
 
 pub only-rehearse : (t ws : List ℕ) → Only nothing (rehearseTold t ws) (rehearseWords t ws ∷ [])
 only-rehearse t ws = only _ _ _

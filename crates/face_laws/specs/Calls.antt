@@ -14,7 +14,8 @@ use Rattle.plans.specs.Calls.{readPlanOf}
 use Rattle.campaign_state.specs.declared.State.{State}
 use Rattle.campaign.specs.Calls.{answerOf, toldOf, leftOf, bytesOf, begunOf}
 use Rattle.pattern_check.specs.Calls.{checkAs}
-use Rattle.campaign_onward.specs.Calls.{panelIn, fitTold}
+use Rattle.campaign_onward.specs.Calls.{statusOf, panelIn, fitTold}
+use Rattle.campaign_onward.specs.declared.Whereabouts.{Whereabouts}
 use Rattle.printing.specs.Printing.{linesIn}
 use Rattle.printing.specs.Rehearsals.{rehearsalOf, stateOf}
 use Rattle.printing.specs.Answers.{fillOf, fillBytes}
@@ -72,6 +73,11 @@ calledWords c ws = wordsLeft states (toldBy c) (leftOf c) ws
 
 abbrev pub requestBytes : List ℕ → List ℕ → List ℕ
 requestBytes ws buf = bytesLeft states bytesOf ws buf
+
+-- ---- where a campaign is
+
+abbrev pub statusIn : List ℕ → Told Whereabouts
+statusIn ws = onWords states statusOf ws
 
 -- ---- going on after a power cut
 

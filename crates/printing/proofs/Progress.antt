@@ -5,13 +5,14 @@ use mathlib.Core.Path.{_≡_, refl, sym, ap, subst, _∙_}
 use mathlib.Core.Logic.{_≢_}
 use mathlib.Core.Bool.{true, false, true≢false}
 use mathlib.Core.List.{List}
+use mathlib.Core.Option.{Option}
 use Prim.Native.Nat.{ℕ, zero, suc, _-_, _≤_, _<_}
 use native.Mathlib.Omega.{arith}
 use lib.ListN.{length}
 use Rattle.listing.proofs.Numbers.{either, test}
 use Rattle.words.specs.Told.{Told, accepted, refused, then}
 use Rattle.promise.specs.Campaign as model
-use Rattle.promise.specs.Campaign.{Setting, Call, request, report, movement, mark, theEnd, taken, refusal}
+use Rattle.promise.specs.Campaign.{Setting, Call, request, reportTo, report, movement, mark, theEnd, taken, refusal}
 use Rattle.promise.specs.Fitness.{Fit}
 use Rattle.promise.specs.Progress.{work, bringsOn}
 use Rattle.promise.proofs.Steps.{Does, moves-on, hands-out, ends, closes, errs, refuses}
@@ -56,7 +57,7 @@ module _ (s : State) (R : Running s) where
   running-left c = record { plan = R .plan; reached = reached-left (R .plan) s (R .reached) c }
 
   -- what a call does to it, but for an error
-  does-less : {c : Call} {a : model.Answer} {n : model.State} → c ≢ report 1 → bringsOn a ≡ true → Fit C n → Does C (momentOf s) c a n
+  does-less : {c : Call} {a : model.Answer} {n : model.State} → ((o : Option ℕ) → c ≢ reportTo o 1) → bringsOn a ≡ true → Fit C n → Does C (momentOf s) c a n
       → work C n < work C (momentOf s)
   does-less x b g (moves-on o os st en w) =
       work-moved C (lawful (R .plan)) (accepts (R .plan)) (momentOf s) (R .reached .fit) o os st en w
@@ -65,11 +66,11 @@ module _ (s : State) (R : Running s) where
   does-less x b g (ends en) = absurd (true≢false (sym b))
   does-less {n = n} x b g (closes {kind = kind} st cl h) =
       work-closing C (lawful (R .plan)) (accepts (R .plan)) (momentOf s) n kind (R .reached .fit) st h g
-  does-less x b g (errs st lt) = absurd (x refl)
+  does-less x b g (errs {o = o} st lt) = absurd (x o refl)
   does-less x b g (refuses k k15) = absurd (true≢false (sym b))
 
 -- a call that brings the campaign on leaves less to go
-go-less : (s : State) (R : Running s) (c : Call) → c ≢ report 1 → bringsOn (answerOf c s) ≡ true → toGo (leftOf c s) < toGo s
+go-less : (s : State) (R : Running s) (c : Call) → ((o : Option ℕ) → c ≢ reportTo o 1) → bringsOn (answerOf c s) ≡ true → toGo (leftOf c s) < toGo s
 unfolding running-left
 go-less s R c x b =
     let l = does-less s R x b (running-left s R c .reached .fit) (does-there (R .plan) s (R .reached) c) in
@@ -109,11 +110,11 @@ module _ (s : State) (R : Running s) (room : ℕ) where
   -- after a request whose line others follow, its mark reported as run, the campaign runs on with less to go
   pub run-on : (a : model.Answer) → answerOf (request room) s ≡ a → more (sequel a) ≡ true
       → Running (asRun a (leftOf (request room) s)) × (toGo (asRun a (leftOf (request room) s)) < toGo s)
-  run-on (movement o) e h = (running-left s R (request room), go-less s R (request room) (λ x. true≢false (cc)) (ap bringsOn e))
+  run-on (movement o) e h = (running-left s R (request room), go-less s R (request room) (λ o x. true≢false (cc)) (ap bringsOn e))
   run-on (mark k r) e h =
       let Q = running-left s R (request room) in
-      let less = go-less s R (request room) (λ x. true≢false (cc)) (ap bringsOn e) in
-      let ran = go-less (leftOf (request room) s) Q (report 0) (λ x. true≢false (cc)) (ap bringsOn (mark-taken k r e)) in
+      let less = go-less s R (request room) (λ o x. true≢false (cc)) (ap bringsOn e) in
+      let ran = go-less (leftOf (request room) s) Q (report 0) (λ o x. true≢false (cc)) (ap bringsOn (mark-taken k r e)) in
       (running-left (leftOf (request room) s) Q (report 0), omega (arith, less, ran))
   run-on (theEnd k) e h = absurd (true≢false (sym h))
   run-on taken e h = absurd (true≢false (sym h))

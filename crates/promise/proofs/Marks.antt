@@ -3,22 +3,23 @@
 use mathlib.Core.Path.{_≡_, refl, sym, ap, ap₂, _∙_, subst}
 use mathlib.Core.Bool.{Bool, true, false, not, cond, _&&_, true≢false}
 use mathlib.Core.List.{List, [], _∷_, _++_}
-use mathlib.Core.Option.{some}
+use mathlib.Core.Option.{Option, some}
 use Prim.Native.Nat.{ℕ, zero, suc, _+_, _<_}
 use native.Mathlib.Omega.{arith}
 use lib.Dec.{eqb}
 use lib.ListN.{length, getD, drop}
 use lib.Seq.{drop-length}
 use Rattle.promise.specs.Plan.{Lawful, Accepted, ranks, marks, number}
-use Rattle.promise.specs.Campaign.{State, withMark, tallied, error, Setting, here, rankOf, numberOf, todo}
+use Rattle.promise.specs.Campaign.{State, withMark, reportTo, reportOf, isClosing, tallied, error, Answer, taken, Setting}
+use Rattle.promise.specs.Campaign.{here, rankOf, numberOf, todo, answer, after}
 use Rattle.promise.specs.Fitness.{Fit}
 use Rattle.promise.specs.Bench.{Turn, leaves, acts, bench, Meets, isMark, fresh, numbered, planned, Again}
 use Rattle.promise.specs.Onward.{markOf, newest, newMark}
 use Rattle.promise.proofs.Tests.{clash, tells-eqb, tells-and}
 use Rattle.promise.proofs.Legs.{number-below, number-step, number-leg, number-last, length-ranks, ranks-at}
 use Rattle.promise.proofs.Ways.{way-done}
-use Rattle.promise.proofs.Steps.{Closes, to-step, to-leg, to-end, moves-on, hands-out, ends, closes}
-use Rattle.promise.proofs.Steps.{errs, refuses, not-ended, listed-here, over-here, History, stop, then}
+use Rattle.promise.proofs.Steps.{Closes, to-step, to-leg, to-end, Does, moves-on, hands-out, ends, closes}
+use Rattle.promise.proofs.Steps.{errs, refuses, does-so, not-ended, closing-sum, listed-here, over-here, History, stop, then}
 
 -- closing a mark leaves the panel as it is and as many marks closed as were counted, and no mark stands
 pub record Closed (s t : State) : Type 0 where
@@ -31,6 +32,17 @@ pub closed-so : {C : Setting} {s t : State} → Closes C s t → Closed s t
 closed-so (to-step a) = record { panel = refl; sum = refl; standing = refl }
 closed-so (to-leg a b) = record { panel = refl; sum = refl; standing = refl }
 closed-so (to-end a b) = record { panel = refl; sum = refl; standing = refl }
+
+-- after a report that is taken and closes its mark one more is closed
+closed-one : {C : Setting} {s t : State} {o : Option ℕ} {kind : ℕ} {a : Answer} → Does C s (reportTo o kind) a t → isClosing (reportOf kind) ≡ true → a ≡ taken
+    → t .covered + t .opened ≡ suc (s .covered + s .opened)
+closed-one {s = s} (closes {kind = kind} st cl x) c e = closed-so x .sum ∙ closing-sum (reportOf kind) s cl
+closed-one (errs st lt) c e = clash c refl
+closed-one (refuses k n) c e = absurd (true≢false (cc))
+
+pub closing-left : (C : Setting) (s : State) → Fit C s → (o : Option ℕ) (kind : ℕ) → answer C (reportTo o kind) s ≡ taken → isClosing (reportOf kind) ≡ true
+    → let t = after C (reportTo o kind) (answer C (reportTo o kind) s) s in t .covered + t .opened ≡ suc (s .covered + s .opened)
+closing-left C s f o kind e c = closed-one (does-so C s f (reportTo o kind)) c e
 
 -- ---- the plan's list from one of its marks on
 

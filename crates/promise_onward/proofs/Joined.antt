@@ -7,7 +7,7 @@ use mathlib.Core.List.{List, [], _∷_, _++_}
 use Prim.Native.Nat.{ℕ}
 use Rattle.listing.proofs.Numbers.{either}
 use Rattle.promise.specs.Plan.{Lawful, Accepted}
-use Rattle.promise.specs.Campaign.{State, Call, Answer, movement, mark, theEnd, taken, refusal, request, report, Setting, first, answer}
+use Rattle.promise.specs.Campaign.{State, Call, Answer, movement, mark, theEnd, taken, refusal, request, reportTo, Setting, first, answer}
 use Rattle.promise.specs.Bench.{Turn, run, leaves, turns, leftBy, Act, moves, meets, says, inFront, acts, bench, isMark, fresh, marksMet}
 use Rattle.promise.specs.Demand.{Demand}
 use Rattle.promise.specs.Onward.{Past, Agrees, firstPast, andThen, andAll}
@@ -39,7 +39,7 @@ front-append c (movement o) xs ys = refl
 front-append c (mark k r) xs ys = refl
 front-append c (theEnd k) xs ys = refl
 front-append (request room) taken xs ys = refl
-front-append (report kind) taken xs ys = refl
+front-append (reportTo o kind) taken xs ys = refl
 front-append c (refusal k) xs ys = refl
 
 -- what happens in turns after turns

@@ -9,7 +9,7 @@ use mathlib.Core.Option.{some}
 use Prim.Native.Nat.{ℕ}
 use Rattle.listing.proofs.Numbers.{either}
 use Rattle.promise.specs.Plan.{Family, Lawful, Accepted}
-use Rattle.promise.specs.Campaign.{State, Call, request, report, Answer, movement, mark, theEnd, taken, refusal, Setting, first, numberOf, rankOf, todo, answer}
+use Rattle.promise.specs.Campaign.{State, Call, request, reportTo, Answer, movement, mark, theEnd, taken, refusal, Setting, first, numberOf, rankOf, todo, answer}
 use Rattle.promise.specs.Fitness.{Fit}
 use Rattle.promise.specs.Bench.{Act, run, leaves, turns, leftBy, inFront, bench, Meets}
 use Rattle.promise.specs.Demand.{Demand}
@@ -56,7 +56,7 @@ module _ (F : Family) (p : List ℕ) (xs : List Act) where
   meets-kept c (mark k r) h m = (h k r refl, m)
   meets-kept c (theEnd k) h m = m
   meets-kept (request room) taken h m = m
-  meets-kept (report kind) taken h m = m
+  meets-kept (reportTo o kind) taken h m = m
   meets-kept c (refusal k) h m = m
 
   -- and after a lost one

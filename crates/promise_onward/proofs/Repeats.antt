@@ -4,20 +4,25 @@
 use mathlib.Core.Path.{_≡_, refl, sym, ap, _∙_, subst}
 use mathlib.Core.Logic.{_≢_, _⊎_}
 use mathlib.Core.Bool.{true, false, cond}
+use mathlib.Core.Option.{Option, some}
 use mathlib.Core.List.{List}
-use Prim.Native.Nat.{ℕ, _≤_}
+use Prim.Native.Nat.{ℕ, suc, _+_, _≤_}
+use native.Mathlib.Omega.{arith}
 use Rattle.listing.specs.Orders.{Order}
 use Rattle.listing.proofs.Numbers.{either, below?}
 use Rattle.promise.specs.Plan.{Lawful, Accepted, marks}
-use Rattle.promise.specs.Campaign.{State, withMark, Call, request, report, Answer, movement, mark, theEnd, taken, refusal, Setting, todo}
+use Rattle.promise.specs.Campaign.{State, withMark, Call, request, reportTo, report, reportOn, reportOf, isClosing}
+use Rattle.promise.specs.Campaign.{Answer, movement, mark, theEnd, taken, refusal, Setting, todo, standsFor}
 use Rattle.promise.specs.Campaign.{next, offer, answer, after}
 use Rattle.promise.specs.Fitness.{Fit, Why, kindAbove, noMark, markStands}
 use Rattle.promise.specs.Bench.{Turn, run, leaves, acts}
 use Rattle.promise.specs.Onward.{Past, Agrees, andAll}
-use Rattle.promise.proofs.Refusals.{refused-so, served, ran-taken}
-use Rattle.promise.proofs.Steps.{Does, moves-on, hands-out, ends, closes, errs, refuses, does-so, History, stop, then, fit-last, history}
-use Rattle.promise.proofs.Marks.{closed-so}
+use Rattle.promise.proofs.Tests.{fails}
+use Rattle.promise.proofs.Refusals.{tells-named, stands-none, refused-so, taken-stands, served, ran-taken}
+use Rattle.promise.proofs.Steps.{Does, moves-on, hands-out, ends, closes, errs, refuses, does-so, due-standing, History, stop, then, fit-last, history}
+use Rattle.promise.proofs.Marks.{closed-so, closing-left}
 use Rattle.promise.proofs.Past.{past-after}
+use Rattle.promise.proofs.Onward.{onward-fit}
 use Rattle.promise_onward.specs.Resume.{resumed, TakenUp}
 use Rattle.promise_onward.specs.Cuts.{left, SavedFor, OnlyOrders}
 use Rattle.promise_onward.proofs.Calls.{Handed, left-fit, shows}
@@ -28,9 +33,10 @@ unfolding after
 stays C t c k w = ap (λ a. after C c a t) (refused-so C t w)
 
 -- a report where no mark stands leaves the state
-report-stays : (C : Setting) (t : State) (kind : ℕ) → Fit C t → t .standing ≡ false → left C (report kind) t ≡ t
-report-stays C t kind f st =
-    either (below? 2 kind) (λ h. stays C t (report kind) 14 (kindAbove f h)) (λ h. stays C t (report kind) 12 (noMark f h st))
+report-stays : (C : Setting) (t : State) (o : Option ℕ) (kind : ℕ) → Fit C t → t .standing ≡ false → left C (reportTo o kind) t ≡ t
+report-stays C t o kind f st =
+    either (below? 2 kind) (λ h. stays C t (reportTo o kind) 14 (kindAbove f h))
+    (λ h. stays C t (reportTo o kind) 12 (noMark f h (stands-none C t o st)))
 
 -- what gave no order, given again on the state that it left, leaves that state
 repeated : {C : Setting} {s t : State} {c : Call} {a : Answer} → Does C s c a t → answer C c s ≡ a → ((o : Order) → a ≢ movement o) → Fit C t → left C c t ≡ t
@@ -38,8 +44,8 @@ unfolding after
 repeated (moves-on o os st en w) e n f = absurd (n o refl)
 repeated {C} {s} (hands-out {room = room} st en w) e n f = stays C (withMark true s) (request room) 13 (markStands f refl)
 repeated {C} {s} {c = c} (ends en) e n f = ap (λ a. after C c a s) e
-repeated {C} {t = t} (closes {kind = kind} st cl x) e n f = report-stays C t kind f (closed-so x .standing)
-repeated {C} {t = t} (errs st lt) e n f = report-stays C t 1 f refl
+repeated {C} {t = t} (closes {o = o} {kind = kind} st cl x) e n f = report-stays C t o kind f (closed-so x .standing)
+repeated {C} {t = t} (errs {o = o} st lt) e n f = report-stays C t o 1 f refl
 repeated {C} {s} {c = c} (refuses k x) e n f = ap (λ a. after C c a s) e
 
 module _ (C : Setting) (lawful : Lawful (C .family)) (accepted : Accepted (C .family) (C .legs)) (s : State) (f : Fit C s) where
@@ -52,10 +58,27 @@ module _ (C : Setting) (lawful : Lawful (C .family)) (accepted : Accepted (C .fa
   -- ---- a report that was taken
 
   -- where the state after it was saved, any report given again is refused with 12: so it is not counted twice
-  pub report-refused : (kind : ℕ) → answer C (report kind) s ≡ taken → (again : ℕ) → again ≤ 2
-      → answer C (report again) (left C (report kind) s) ≡ refusal 12
-  report-refused kind e again i =
-      refused-so C (left C (report kind) s) (noMark (left-fit C lawful accepted s f (report kind)) i (shows C lawful accepted s f (report kind) taken e))
+  pub report-refused : (o : Option ℕ) (kind : ℕ) → answer C (reportTo o kind) s ≡ taken → (q : Option ℕ) (again : ℕ) → again ≤ 2
+      → answer C (reportTo q again) (left C (reportTo o kind) s) ≡ refusal 12
+  report-refused o kind e q again i =
+      let c : Call = reportTo o kind in
+      refused-so C (left C c s)
+      (noMark (left-fit C lawful accepted s f c) i (stands-none C (left C c s) q (shows C lawful accepted s f c taken e)))
+
+  -- one that names its mark and closes it is refused with 12 however late it is repeated, whatever calls come between: it is not taken for another mark
+  pub refused-later : (m kind : ℕ) → answer C (reportOn m kind) s ≡ taken → isClosing (reportOf kind) ≡ true → (cs : List Call) (again : ℕ) → again ≤ 2
+      → let t = left C (reportOn m kind) s in answer C (reportOn m again) (leaves t (run C cs t)) ≡ refusal 12
+  refused-later m kind e cl cs again i =
+      let t : State = left C (reportOn m kind) s in
+      let g : Fit C t = left-fit C lawful accepted s f (reportOn m kind) in
+      let u : State = leaves t (run C cs t) in
+      let h : Fit C u = fit-last (history C lawful accepted cs t g) in
+      let st = tells-named C s m .0 (taken-stands C s f (some m) kind e) in
+      let more = onward-fit C lawful accepted t g cs (t .panel) refl .closedCounts in
+      refused-so C u
+      (noMark h i
+      (fails (standsFor C (some m) u) (tells-named C u m)
+      (λ x. omega (arith, x .1, due-standing u h (x .0), more, closing-left C s f (some m) kind e cl, due-standing s f (st .0), st .1))))
 
   -- ---- a request that gave a mark
 

@@ -19,7 +19,7 @@ use Rattle.listing.specs.Neighbours.{nextRank, previousRank, inside, onFrom, ne
 use Rattle.promise.specs.Tests.{all, implies, isPermutation, same}
 use Rattle.promise.specs.Carriage.{holder, carriageFrom, carriage}
 use Rattle.promise.specs.Plan.{marks, number}
-use Rattle.promise.specs.Campaign.{State, ran, request, report, movement, mark, taken, refusal, Setting}
+use Rattle.promise.specs.Campaign.{State, ran, request, report, reportOn, movement, mark, taken, refusal, Setting}
 use Rattle.promise.specs.Campaign.{rest, toCome, first, fit, offer, answer, closed, heard, after}
 use Rattle.promise.specs.Bench.{run, leaves, leftBy, Act, moves, meets, says, acts, Meets}
 use Rattle.promise.specs.Derangements.{derangements, onPorts}
@@ -60,11 +60,13 @@ Panels = (carry (swap 2 3) (home 4) ≡ 2 ∷ 4 ∷ 3 ∷ 1 ∷ []) × (derangem
 unfoldable pub twice : Setting
 twice = onPorts 4 (record { start = 0; back = false; run = 0 } ∷ record { start = 0; back = false; run = 0 } ∷ []) (λ a. 45)
 
--- repeated at once a report that was taken is refused with 12; repeated after the next request it is taken for the next mark, which was not run
+-- repeated at once a report that was taken is refused with 12; repeated after the next request it is taken for the next mark, which was not run, unless it
+-- names its mark
 abbrev pub TooLate : Type 0
 TooLate =
     (answers twice (request 45 ∷ report 0 ∷ report 0 ∷ []) ≡ mark 0 0 ∷ taken ∷ refusal 12 ∷ [])
     × (answers twice (request 45 ∷ report 0 ∷ request 45 ∷ report 0 ∷ []) ≡ mark 0 0 ∷ taken ∷ mark 1 0 ∷ taken ∷ [])
+    × (answers twice (request 45 ∷ reportOn 0 0 ∷ request 45 ∷ reportOn 0 0 ∷ []) ≡ mark 0 0 ∷ taken ∷ mark 1 0 ∷ refusal 12 ∷ [])
 
 -- a mark is handed out, lost in a cut, handed out again and reported as run
 unfoldable pub lostMark : List Moment
@@ -80,7 +82,7 @@ computed : GoesOn × Panels × TooLate × MetTwice
 unfolding short savedShort twoActs twice lostMark answers resume happened keptCalls acts run leaves first fit offer answer closed heard after rest toCome orElse
     marks number holder carriageFrom carriage all implies isPermutation same derangements nextRank previousRank inside onFrom nextMove previousMove hopB hopA hop
     join4 join5 join closing source carry carryAll home joined block blocks listing at stepA stepB count tabulate is trade raise lower odd
-computed = ((refl, refl, refl, refl, refl), (refl, refl), (refl, refl), (refl, refl))
+computed = ((refl, refl, refl, refl, refl), (refl, refl), (refl, refl, refl), (refl, refl))
 
 -- the saved state goes on without the panel read back, no call is refused, and the mark counts as covered
 pub goes-on-unread : GoesOn
@@ -94,7 +96,7 @@ unread h =
     let e : _≡_ {A = List ℕ} (2 ∷ 4 ∷ 3 ∷ 1 ∷ []) (3 ∷ 4 ∷ 2 ∷ 1 ∷ []) = sym (computed .1 .0) ∙ m .0 ∙ computed .1 .1 in
     omega (arith, head-eq-of-cons-eq e)
 
--- a bench that does not know whether its report was saved must repeat it before any request
+-- a bench that does not know whether its report was saved must repeat it before any request, or name the mark
 pub too-late : TooLate
 too-late = computed .2
 

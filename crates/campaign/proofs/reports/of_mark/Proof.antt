@@ -1,5 +1,6 @@
 -- `campaign::reports::of_mark`: 14 for a kind above 2; ran and gave up count and close the mark; an error counts, up to the limit, and leaves it to come again.
 use mathlib.Core.Path.{_≡_, refl, _∙_}
+use mathlib.Core.Option.{none}
 use native.Mathlib.Omega.{arith}
 use borrow.Author.Needs.{needs}
 use Rattle.words.specs.declared.Reason.the-variants.{Kind, Errors}
@@ -20,7 +21,7 @@ sized c = record { starts = search needs; runs = search needs; panel = search ne
 returns : tie.Need-returns
 returns c =
     let s = c .before .before in
-    report-refused _ _ (s .args .s) _ Kind 14 (c .refused .ensures) refl (kind-answer (s .args .s) (s .pre .0) (s .args .kind) (c .before .if1 .taken))
+    report-refused _ _ (s .args .s) _ Kind 14 (c .refused .ensures) refl (kind-answer (s .args .s) (s .pre .0) none (s .args .kind) (c .before .if1 .taken))
 
 add-next : tie.Need-add-next
 add-next c = let s = c .before .before .before in omega (arith, counts-room (s .args .s) (sized s) (s .pre .0) (s .pre .1))

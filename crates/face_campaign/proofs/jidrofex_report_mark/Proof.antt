@@ -1,0 +1,48 @@
+-- `face_campaign::jidrofex_report_mark`: 15 for words that are no state; else the report on that state and on the mark with that number, and the words of the state that it leaves.
+-- Assumes nothing.
+use mathlib.Core.Path.{_≡_, _∙_}
+use mathlib.Core.Option.{some}
+use borrow.Author.Needs.{needs}
+use Rattle.promise.specs.Campaign.{reportOn}
+use Rattle.campaign.specs.Calls.{leftOf}
+use Rattle.face_values.specs.Answers.{nothing}
+use Rattle.face_values.proofs.Tells.{tells-leaving}
+use Rattle.face_state.specs.States.{stateIn}
+use Rattle.face_state.proofs.StateWords.{held-state, held-none, state-length}
+use Rattle.face_laws.specs.Calls.{states, toldBy}
+use Rattle.face_laws.proofs.OnState.{on-told, off-told, off-left, heard}
+use Rattle.face_laws.proofs.Stays.{called-left}
+use Rattle.face_campaign.proofs.jidrofex_report_mark.Statement.{statement}
+use Rattle.face_campaign.proofs.jidrofex_report_mark.Tie as tie
+
+-- the state that the words are
+is : (c : tie.Then1) → some (c .before .state-in .result .state) ≡ stateIn (c .before .before .before .before .args .state .now)
+is c = held-state (c .before .state-in .result) (c .before .state-in .ensures) (c .if1 .taken)
+
+state-out-requires : tie.Need-state-out-requires
+state-out-requires c κs = state-length _ (is (c .before .before .before .before))
+
+returns : tie.Need-returns
+returns c =
+    let o = c .before .before .before .before in
+    let r = o .before .before .before in
+    let i = r .before .before in
+    let a = i .before .before .before .before .args in
+    let call = reportOn (a .mark) (a .kind) in
+    let left = o .state-out .ensures ∙ called-left call (a .state .now) (is i) (r .report-mark .ensures .state) in
+    let told = r .report-mark .ensures .answer ∙ on-told states (toldBy call) (a .state .now) (is i) in
+    tells-leaving nothing (told, left) (heard (r .report-mark .result .answer) (c .give-outcome .ensures))
+
+returns-2 : tie.Need-returns-2
+returns-2 c =
+    let n = c .before .before in
+    let h = n .before in
+    let a = h .before .before .before .args in
+    let call = reportOn (a .mark) (a .kind) in
+    let no = held-none (h .state-in .result) (h .state-in .ensures) (n .if1 .left) in
+    tells-leaving nothing (off-told states (a .state .now) no (toldBy call), off-left states (a .state .now) no (toldBy call) (leftOf call)) (c .unfit .ensures)
+
+pub jidrofex-report-mark-spec : {M : Type 1} → statement M
+jidrofex-report-mark-spec =
+    tie.close
+    (tie.spec (λ c κs. search needs) (λ c κs. search needs) state-out-requires (λ c κs. search needs) (λ c. search needs) returns (λ c κs. search needs) (λ c. search needs) returns-2)
