@@ -24,7 +24,7 @@ use Rattle.line_format.proofs.Inverse.{read-written, campaign-proper}
 use Rattle.panel.specs.Calls.{afterLine, carryOf, carryBytes}
 use Rattle.panel.proofs.Accepted.{carry-accepted}
 use Rattle.promise.specs.Plan.{Leg}
-use Rattle.promise.specs.Campaign.{Setting, request, report, Answer, movement, mark, theEnd, taken, refusal, first}
+use Rattle.promise.specs.Campaign.{Setting, request, reportTo, Answer, movement, mark, theEnd, taken, refusal, first}
 use Rattle.promise.specs.Campaign as model
 use Rattle.promise.specs.Bench.{Act, moves, inFront, acts}
 use Rattle.promise.specs.Demand.{Demanded, FullCircuit}

@@ -1,4 +1,4 @@
--- The theorems: the three demands, demand three for the bytes, then what the paper says of refusals, of the end and of the longest line, that one answer
+-- The theorems: the three demands, demand three for the bytes, reports that are sent twice and the panel to restore, then what the paper says of refusals, of the end and of the longest line, that one answer
 -- meets each contract, and that only reports raise covered.
 pub mod One
 pub mod Two
@@ -7,6 +7,8 @@ pub mod Bytes
 pub mod Words
 pub mod Onward
 pub mod Lives
+pub mod Repeats
+pub mod Restored
 pub mod Refusals
 pub mod Ends
 pub mod Longest

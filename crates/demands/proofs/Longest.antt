@@ -5,6 +5,7 @@ use mathlib.Core.Path.{_≡_, refl, sym, ap, subst, _∙_}
 use mathlib.Core.Logic.{_≢_}
 use mathlib.Core.Bool.{Bool, true, false, not, cond, _&&_, true≢false}
 use mathlib.Core.List.{List, [], _∷_}
+use mathlib.Core.Option.{Option}
 use Prim.Native.Nat.{ℕ, zero, suc, _+_, _≤_, _<_}
 use native.Mathlib.Nat.{zero-add}
 use native.Mathlib.Omega.{arith}
@@ -14,7 +15,7 @@ use Rattle.listing.specs.Limits.{mostLegs}
 use Rattle.listing.proofs.Numbers.{either, test, below?}
 use Rattle.line_format.proofs.Longest.{mark-45}
 use Rattle.promise.specs.Plan.{legAt, rankAt, ranks, number}
-use Rattle.promise.specs.Campaign.{Setting, request, report, reportOf, isError, isClosing, Answer, movement, mark, theEnd, taken, refusal, fit, offer, answer}
+use Rattle.promise.specs.Campaign.{Setting, request, reportTo, reportOf, isError, isClosing, Answer, movement, mark, theEnd, taken, refusal, fit, offer, standsFor, answer}
 use Rattle.promise.specs.Campaign as model
 use Rattle.promise.specs.Bench.{Act, inFront, acts, isMark, fresh, marksMet, numbered, planned}
 use Rattle.promise.specs.Fitness.{Fit, markStands, noRoom}

@@ -26,7 +26,7 @@ use Rattle.line_format.specs.Format.{Kind, swapping, turning, marking, ending, 
 use Rattle.line_format.specs.Calls.{roomOf, writeOf, writeBytes}
 use Rattle.words.specs.Shape.{lineFits}
 use Rattle.line_format.specs.Reading.{fitting, numbersIn, numbersTold, keyed, lineIn, readOf}
-use Rattle.promise.specs.Campaign.{Setting, refusal, Call, request, report, reportOf, isError, todo, next, offer, answer}
+use Rattle.promise.specs.Campaign.{Setting, refusal, Call, request, reportTo, reportOf, isError, todo, next, offer, standsFor, answer}
 use Rattle.promise.specs.Campaign as model
 use Rattle.campaign_state.specs.State.{settingOf, momentOf}
 use Rattle.campaign_state.specs.Fitness.{placesFit, fit}
@@ -37,7 +37,7 @@ use Rattle.campaign.proofs.Moments.{refusal-leaves}
 use Rattle.campaign.proofs.Tells.{bytes-stay}
 use Rattle.printing.specs.Rehearsals.{stateOf}
 use Rattle.printing.specs.declared.Rehearsal.{Rehearsal}
-use Rattle.campaign_onward.specs.Calls.{panelIn, fitTold, resumeOf, resumedOf, goesOn}
+use Rattle.campaign_onward.specs.Calls.{whereOf, statusOf, panelIn, fitTold, resumeOf, resumedOf, goesOn}
 use Rattle.printing.proofs.Refused.{refused-first, rehearsal-stays, bytes-stay as line-bytes-stay}
 use Rattle.plan_rules.specs.Planned.{device}
 use Rattle.demands.specs.One.{OneOf, Refuses, RefusesAs, DemandOne}
@@ -163,11 +163,7 @@ report-numbers o kind s =
 -- a state that is unfit
 status-numbers : (s : State) → Refuses (15 ∷ []) (statusOf s)
 unfolding statusOf
-status-numbers s = by (fit s)
-  where
-    by : (b : Bool) → Refuses (15 ∷ []) (cond b (accepted (whereOf s)) (refused 15 nowhere))
-    by true k p e = absurd (not-both e)
-    by false k p e = inl (refused-eq e)
+status-numbers s = from-cond (15 ∷ []) (fit s) _ _ (from-accepted (15 ∷ []) (whereOf s)) (from-refused (15 ∷ []) 15 _ (inl refl))
 
 -- the plan's numbers
 abbrev ofPlan : List ℕ

@@ -21,9 +21,9 @@ use Rattle.line_reader.proofs.Contracts.{read-line-says}
 use Rattle.plans.proofs.Only.{only-read-plan}
 use Rattle.plans.proofs.Contracts.{read-plan-says}
 use Rattle.campaign.proofs.Only.{only-request, only-request-bytes, only-report, only-begin}
-use Rattle.campaign.proofs.Contracts.{begin-says, request-says, report-says}
-use Rattle.campaign_onward.proofs.Only.{only-resume}
-use Rattle.campaign_onward.proofs.Contracts.{resume-says}
+use Rattle.campaign.proofs.Contracts.{begin-says, request-says, report-says, report-mark-says}
+use Rattle.campaign_onward.proofs.Only.{only-status, only-resume}
+use Rattle.campaign_onward.proofs.Contracts.{status-says, resume-says}
 use Rattle.printing.proofs.Only.{only-rehearse, only-fill}
 use Rattle.printing.proofs.Contracts.{rehearse-says, fill-says}
 use Rattle.face_laws.proofs.Only as face
@@ -67,6 +67,8 @@ each-call-one = record {
   begin = one-by begin-says (λ κs a r s e f. only-begin _ r s);
   request = one-by request-says (λ κs a r s e f h k. both (only-request _ _ _ r s (h .0) (k .0), only-request-bytes _ _ _ _ (h .1) (k .1)));
   report = one-by report-says (λ κs a r s e f. only-report _ _ _ r s);
+  reportMark = one-by report-mark-says (λ κs a r s e f. only-report _ _ _ r s);
+  status = one-by status-says (λ κs (c, _) r s e f. only-status (c .state) r s);
   resume = one-by resume-says (λ κs (c, (panel, _)) r s e f. only-resume (c .state) (now panel) r s);
   rehearse = one-by rehearse-says (λ κs a r s e f. only-rehearse _ r s);
   fill = one-by fill-says (λ κs (p, (buf, _)) r s e f h k. both (only-fill p (now buf) r s _ _ (h .0) (h .1) (k .0) (k .1)));
@@ -86,6 +88,8 @@ each-call-one = record {
   faceBegin = one-by face-campaign.begin-says (λ κs a r s e f. face.only-begin _ _ _ _);
   faceRequest = one-by face-campaign.request-says (λ κs (state, (buf, _)) r s e f. face.only-request (now state) (now buf) _ _);
   faceReport = one-by face-campaign.report-says (λ κs a r s e f. face.only-report _ _ _ _);
+  faceReportMark = one-by face-campaign.report-mark-says (λ κs a r s e f. face.only-report-mark _ _ _ _ _);
+  faceStatus = one-by face-campaign.status-says (λ κs a r s e f. face.only-status _ _ _);
   faceResume = one-by face-campaign.resume-says (λ κs (state, (panel, _)) r s e f. face.only-resume (now panel) (now state) _ _);
   faceRehearse = one-by face-campaign.rehearse-says (λ κs a r s e f. face.only-rehearse _ _ _ _);
   faceOrders = one-by face-campaign.orders-says (λ κs (rehearsal, (buf, _)) r s e f. face.only-orders (now rehearsal) (now buf) _ _);

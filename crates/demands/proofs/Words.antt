@@ -6,12 +6,13 @@ use mathlib.Core.Path.{_≡_, refl, sym, ap, subst, _∙_}
 use mathlib.Core.Logic.{inl, inr}
 use mathlib.Core.Bool.{true}
 use mathlib.Core.List.{List, [], _∷_, map}
+use mathlib.Core.Option.{Option, none, some}
 use Prim.Native.Nat.{ℕ, zero, suc}
 use native.Mathlib.Omega.{arith}
 use lib.ListN.{length}
 use Rattle.listing.specs.Count.{count}
 use Rattle.promise.specs.Plan.{Leg}
-use Rattle.promise.specs.Campaign.{Setting, request, report, Answer, movement, mark, theEnd, taken, refusal}
+use Rattle.promise.specs.Campaign.{Setting, request, reportTo, Answer, movement, mark, theEnd, taken, refusal}
 use Rattle.promise.specs.Campaign as model
 use Rattle.promise.specs.Bench.{Turn, Act, inFront}
 use Rattle.promise.specs.Demand.{Demanded, FullCircuit}

@@ -29,6 +29,8 @@ use Rattle.plans.proofs.reading.read_plan.Reads as read-plan
 use Rattle.campaign.proofs.Campaign.begin.Reads as begin
 use Rattle.campaign.proofs.Campaign.request.Reads as request
 use Rattle.campaign.proofs.Campaign.report.Reads as report
+use Rattle.campaign.proofs.Campaign.report_mark.Reads as report-mark
+use Rattle.campaign_onward.proofs.status.Reads as status
 use Rattle.campaign_onward.proofs.resume.Reads as resume
 use Rattle.printing.proofs.rehearse.Reads as rehearse
 use Rattle.printing.proofs.fill.Reads as fill
@@ -48,6 +50,8 @@ use Rattle.face_lines.proofs.jidrofex_read_line.Reads as face-read-line
 use Rattle.face_campaign.proofs.jidrofex_begin.Reads as face-begin
 use Rattle.face_campaign.proofs.jidrofex_request.Reads as face-request
 use Rattle.face_campaign.proofs.jidrofex_report.Reads as face-report
+use Rattle.face_campaign.proofs.jidrofex_report_mark.Reads as face-report-mark
+use Rattle.face_campaign.proofs.jidrofex_status.Reads as face-status
 use Rattle.face_campaign.proofs.jidrofex_resume.Reads as face-resume
 use Rattle.face_campaign.proofs.jidrofex_rehearse.Reads as face-rehearse
 use Rattle.face_campaign.proofs.jidrofex_orders.Reads as face-orders
@@ -92,6 +96,8 @@ pub record EachCallOne : Type 0 where
   pub begin : OneAnswer begin.Learnt
   pub request : OneWith request.Learnt (λ κs (_, (buf, _)). now buf)
   pub report : OneAnswer report.Learnt
+  pub reportMark : OneAnswer report-mark.Learnt
+  pub status : OneAnswer status.Learnt
   pub resume : OneAnswer resume.Learnt
   -- ---- lines in bulk
   pub rehearse : OneAnswer rehearse.Learnt
@@ -113,6 +119,8 @@ pub record EachCallOne : Type 0 where
   pub faceBegin : One face-begin.Learnt (λ κs r (_, (state, (answer, _))). result r (now answer) (now state ∷ []))
   pub faceRequest : One face-request.Learnt (λ κs r (state, (buf, (answer, _))). result r (now answer) (now state ∷ now buf ∷ []))
   pub faceReport : One face-report.Learnt (λ κs r (state, (_, (answer, _))). result r (now answer) (now state ∷ []))
+  pub faceReportMark : One face-report-mark.Learnt (λ κs r (state, (_, (_, (answer, _)))). result r (now answer) (now state ∷ []))
+  pub faceStatus : One face-status.Learnt (λ κs r (_, (answer, _)). result r (now answer) [])
   pub faceResume : One face-resume.Learnt (λ κs r (state, (_, (answer, _))). result r (now answer) (now state ∷ []))
   pub faceRehearse : One face-rehearse.Learnt (λ κs r (_, (rehearsal, (answer, _))). result r (now answer) (now rehearsal ∷ []))
   pub faceOrders : One face-orders.Learnt (λ κs r (rehearsal, (buf, (answer, _))). result r (now answer) (now rehearsal ∷ now buf ∷ []))

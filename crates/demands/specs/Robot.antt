@@ -14,7 +14,7 @@ use Rattle.words.specs.declared.Line.the-variants.{Movement, Mark, End}
 use Rattle.line_format.specs.Format.{lineText}
 use Rattle.line_format.specs.Reading.{readOf}
 use Rattle.panel.specs.Calls.{carryOf, carryBytes}
-use Rattle.promise.specs.Campaign.{request, report}
+use Rattle.promise.specs.Campaign.{request, reportTo}
 use Rattle.promise.specs.Bench.{Act, moves, meets, inFront}
 use Rattle.campaign_state.specs.State.{answerLine}
 use Rattle.campaign_state.specs.declared.State.{State}
