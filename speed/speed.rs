@@ -4,10 +4,11 @@
 mod stack;
 
 use face::Answer;
-use reference::campaign::{print, WORDS};
+use reference::campaign::WORDS;
 use reference::circuit::each_pattern;
 use reference::list::{at, count_of, Move};
 use reference::panel::orders;
+use reference::printer::print;
 use reference::rehearsal::REHEARSAL_WORDS;
 use reference::text::Line;
 use reference::{relations, told};

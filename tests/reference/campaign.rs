@@ -1,8 +1,8 @@
-//! The campaign: its state, what makes a state fit (15), request, report, going on after a power cut, and the order printer.
+//! The campaign: its state, what makes a state fit (15), where it is, request, report, a report by number, and going on after a power cut.
 
 use crate::list::{check_panel, count_of, difference};
 use crate::panel::{carriage, obey, orders};
-use crate::plan::{read_plan, Leg, Plan};
+use crate::plan::{Leg, Plan};
 use crate::text::Line;
 use crate::{refusal, Refusal, MOST_ERRORS, MOST_LEGS, MOST_PORTS};
 
@@ -16,6 +16,18 @@ pub struct State {
     pub covered: u128,
     pub open: u128,
     pub errors: u128,
+    pub standing: bool,
+    pub ended: bool,
+}
+
+/// Where a campaign is.
+#[derive(Clone, Copy, Debug, PartialEq, Eq)]
+pub struct Status {
+    /// The plan's marks.
+    pub marks: u128,
+    /// The number, from 0 over the whole plan, and the rank of the standing mark, else of the next, after the end of the last.
+    pub number: u128,
+    pub rank: u128,
     pub standing: bool,
     pub ended: bool,
 }
@@ -121,6 +133,12 @@ impl State {
         order_towards(&self.plan, &self.panel, self.leg, self.step).unwrap_or_else(mark)
     }
 
+    /// Where a fit state is. At the plan's last mark leg and step stay, so after the end they name that mark.
+    pub fn status(&self) -> Status {
+        let State { plan, leg, step, standing, ended, .. } = self;
+        Status { marks: plan.marks(), number: plan.number(*leg, *step), rank: plan.rank(*leg, *step), standing: *standing, ended: *ended }
+    }
+
     /// A request on a fit state, with so much room for the line: the line and the new state. 'A movement order handed out counts as carried out in
     /// the state's panel.'
     pub fn request(&self, room: usize) -> Result<(Line, State), Refusal> {
@@ -166,6 +184,17 @@ impl State {
             after.step += 1;
         }
         Ok(after)
+    }
+
+    /// A report on a fit state of the mark with this number: the report if that mark stands, else 12.
+    pub fn report_mark(&self, mark: u64, kind: u8) -> Result<State, Refusal> {
+        if kind > 2 {
+            return Err(refusal(14));
+        }
+        if !self.standing || self.plan.number(self.leg, self.step) != u128::from(mark) {
+            return Err(refusal(12));
+        }
+        self.report(kind)
     }
 
     /// Going on after a power cut: the state with the panel as it was read back put in. The panel's own refusals first; then 15 for a panel of other ports than
@@ -252,35 +281,4 @@ pub fn order_towards(plan: &Plan, panel: &[u8], leg: usize, step: u128) -> Optio
     let last = plan.pattern(leg, step - 1);
     let moves = orders(difference(&last, &wanted).expect("neighbours of the list are one move apart"));
     Some(if panel == last { moves[0] } else { moves[1] })
-}
-
-/// The order printer: 'judges the first 1,024 bytes as a plan, takes every mark as run and prints every order. For a refusal it prints only
-/// `refused=` with the number, a newline, `at=` with the place, a newline.'
-pub fn print(input: &[u8]) -> Vec<u8> {
-    match read_plan(&input[..input.len().min(1024)]) {
-        Err(Refusal { number, place }) => format!("refused={number}\nat={place}\n").into_bytes(),
-        Ok(plan) => print_plan(plan),
-    }
-}
-
-/// Every order of a plan, written leg by leg and mark by mark, with no state: the carriage, and then the moves from mark to mark.
-fn print_plan(plan: Plan) -> Vec<u8> {
-    let mut text = vec![];
-    let mut panel = State::first(plan.clone()).panel;
-    for (l, leg) in plan.legs.iter().enumerate() {
-        while let Some(order) = carriage(&panel, &plan.pattern(l, 0)) {
-            obey(&mut panel, order);
-            text.extend(order.text());
-        }
-        for step in 0..=leg.run.unsigned_abs() {
-            let wanted = plan.pattern(l, step);
-            for order in orders(difference(&panel, &wanted).expect("neighbours of the list are one move apart")) {
-                text.extend(order.text());
-            }
-            panel = wanted;
-            text.extend(Line::Mark(plan.number(l, step) as u64, plan.rank(l, step) as u64).text());
-        }
-    }
-    text.extend(Line::End(plan.marks() as u64).text());
-    text
 }

@@ -5,9 +5,10 @@
 //! - `circuit`: the list once more, as document 000's procedures gen_up and gen_down produce it, pattern by pattern
 //! - `relations`: one neighbour by relations (3) to (9), without walking the list: the plain Rust that the speed table times
 //! - `panel`: look-ups and orders carried out
-//! - `text`: numbers and order lines
+//! - `text`: numbers, order lines, and refusals in words
 //! - `plan`: the reading of plans
-//! - `campaign`: the state, its fitness, request, report, going on after a power cut, and the order printer
+//! - `campaign`: the state, its fitness, where it is, request, report, a report by number, and going on after a power cut
+//! - `printer`: the order printer
 //! - `rehearsal`: lines in bulk, with no counts
 //! - `told`: all of these as the calls of include/jidrofex.h, in numbers and slices
 
@@ -16,10 +17,14 @@ pub mod circuit;
 pub mod list;
 pub mod panel;
 pub mod plan;
+pub mod printer;
 pub mod rehearsal;
 pub mod relations;
 pub mod text;
 pub mod told;
+
+/// The version of include/jidrofex.h that this is the reference of.
+pub const VERSION: u64 = 1;
 
 pub const MOST_PORTS: usize = 20;
 pub const MOST_LEGS: usize = 16;

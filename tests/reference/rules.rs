@@ -7,7 +7,7 @@ use reference::text::Line;
 use reference::told;
 
 /// A state after requests with room enough, up to and with the next mark.
-fn at_mark(state: &State) -> State {
+pub fn at_mark(state: &State) -> State {
     let (_, after) = state.request(45).expect("an order");
     if after.standing {
         after

@@ -1,4 +1,4 @@
-//! Numbers and order lines as text.
+//! Numbers, order lines and refusals as text.
 
 use crate::{refusal, Refusal, MOST_PORTS};
 
@@ -52,14 +52,44 @@ pub fn signed(text: &[u8]) -> Option<i128> {
     }
 }
 
+/// A text at the front of a buffer, whose later bytes keep their values; answers how many bytes it takes, or 2 where it does not fit.
+fn put(text: &[u8], buffer: &mut [u8]) -> Result<usize, Refusal> {
+    buffer.get_mut(..text.len()).ok_or(refusal(2))?.copy_from_slice(text);
+    Ok(text.len())
+}
+
 /// A line at the front of a buffer; answers how many bytes it takes. 'In writing an order, 17 comes before 2.'
 pub fn write_line(line: Option<Line>, buffer: &mut [u8]) -> Result<usize, Refusal> {
-    let text = line.filter(|line| line.in_shape(MOST_PORTS as u64)).ok_or(refusal(17))?.text();
-    if text.len() > buffer.len() {
-        return Err(refusal(2));
-    }
-    buffer[..text.len()].copy_from_slice(&text);
-    Ok(text.len())
+    let line = line.filter(|line| line.in_shape(MOST_PORTS as u64)).ok_or(refusal(17))?;
+    put(&line.text(), buffer)
+}
+
+/// What 0 and each refusal say, by number.
+const SAID: [&str; 18] = [
+    "accepted",
+    "ports or length not 2 to 20",
+    "does not fit the buffer",
+    "entry outside the panel's ports",
+    "entry equal to an earlier one",
+    "entry equal to its own jack",
+    "rank not below the count",
+    "not the key that belongs here",
+    "number badly written or too large",
+    "legs not 1 to 16",
+    "run too long",
+    "text ended early or went on",
+    "report of a mark that does not stand",
+    "request while a mark stands",
+    "report kind above 2",
+    "state unfit",
+    "error reported when 65,535 are counted",
+    "jack or port off the panel, or order out of shape",
+];
+
+/// The words of a refusal at the front of a buffer, with no newline; answers how many bytes they take, or 2 where they do not fit.
+pub fn refusal_words(number: u8, buffer: &mut [u8]) -> Result<usize, Refusal> {
+    let words = SAID.get(usize::from(number)).unwrap_or(&"no refusal has this number");
+    put(words.as_bytes(), buffer)
 }
 
 /// The line that starts at a place, and the place after its newline. 'Checks: newline (11, also at or past the end of the slice), key with its `=`

@@ -1,11 +1,11 @@
 //! The reference as the calls of include/jidrofex.h: numbers and lent slices in, a number and the five words of the answer out.
 
-use crate::campaign::{State, WORDS};
+use crate::campaign::{State, Status, WORDS};
 use crate::list::Move;
 use crate::plan::read_plan;
 use crate::rehearsal::{Rehearsal, REHEARSAL_WORDS};
 use crate::text::Line;
-use crate::{list, panel, refusal, text, Refusal};
+use crate::{list, panel, refusal, text, Refusal, VERSION};
 
 pub type Answer = [u64; 5];
 
@@ -60,6 +60,14 @@ fn line_of(words: &[u64; 4]) -> Option<Line> {
         4 => Some(Line::End(a)),
         _ => None,
     }
+}
+
+pub fn version(answer: &mut Answer) -> u8 {
+    tell(Ok(one(VERSION)), answer)
+}
+
+pub fn refusal_words(number: u8, buffer: &mut [u8], answer: &mut Answer) -> u8 {
+    tell(text::refusal_words(number, buffer).map(|bytes| one(bytes as u64)), answer)
 }
 
 pub fn check(pattern: &[u8], answer: &mut Answer) -> u8 {
@@ -142,6 +150,11 @@ pub fn begin(text: &[u8], state: &mut [u64], answer: &mut Answer) -> u8 {
     tell(begun.map(|_| NOTHING), answer)
 }
 
+pub fn status(state: &[u64], answer: &mut Answer) -> u8 {
+    let words = |Status { marks, number, rank, standing, ended }| [marks as u64, number as u64, rank as u64, u64::from(standing), u64::from(ended)];
+    tell(State::from_words(state).map(|fit| words(fit.status())), answer)
+}
+
 pub fn request(state: &mut [u64], buffer: &mut [u8], answer: &mut Answer) -> u8 {
     let requested = State::from_words(state).and_then(|fit| fit.request(buffer.len()));
     tell(
@@ -155,10 +168,10 @@ pub fn request(state: &mut [u64], buffer: &mut [u8], answer: &mut Answer) -> u8 
     )
 }
 
-pub fn report(state: &mut [u64], kind: u8, answer: &mut Answer) -> u8 {
-    let reported = State::from_words(state).and_then(|fit| fit.report(kind));
+/// A call that gives nothing but the state after it.
+fn leave(after: Result<State, Refusal>, state: &mut [u64], answer: &mut Answer) -> u8 {
     tell(
-        reported.map(|after| {
+        after.map(|after| {
             state.copy_from_slice(&after.to_words());
             NOTHING
         }),
@@ -166,16 +179,17 @@ pub fn report(state: &mut [u64], kind: u8, answer: &mut Answer) -> u8 {
     )
 }
 
+pub fn report(state: &mut [u64], kind: u8, answer: &mut Answer) -> u8 {
+    leave(State::from_words(state).and_then(|fit| fit.report(kind)), state, answer)
+}
+
+pub fn report_mark(state: &mut [u64], mark: u64, kind: u8, answer: &mut Answer) -> u8 {
+    leave(State::from_words(state).and_then(|fit| fit.report_mark(mark, kind)), state, answer)
+}
+
 /// 'Refused with the panel's own numbers (1, 3, 4), then with 15.'
 pub fn resume(state: &mut [u64], panel: &[u8], answer: &mut Answer) -> u8 {
-    let resumed = list::check_panel(panel).and_then(|()| State::saved(state)).and_then(|saved| saved.resume(panel));
-    tell(
-        resumed.map(|after| {
-            state.copy_from_slice(&after.to_words());
-            NOTHING
-        }),
-        answer,
-    )
+    leave(list::check_panel(panel).and_then(|()| State::saved(state)).and_then(|saved| saved.resume(panel)), state, answer)
 }
 
 /// 'A refused text leaves it all zeros; words of the wrong number are refused (15) before the text is looked at.'

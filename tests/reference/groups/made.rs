@@ -3,9 +3,10 @@
 use crate::calls::{Call, Name, Outcome};
 use crate::inputs::{self, Rng};
 use crate::Harness;
-use reference::campaign::{print, State, ENDED, PANEL, PORTS, STANDING, WORDS};
+use reference::campaign::{State, ENDED, PANEL, PORTS, STANDING, WORDS};
 use reference::list::{at, count_of};
 use reference::plan::{Leg, Plan};
+use reference::printer::print;
 use reference::rehearsal::REHEARSAL_WORDS;
 use reference::told;
 
