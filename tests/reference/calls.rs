@@ -6,6 +6,8 @@ use std::fmt;
 /// Which call, with the numbers that go by value.
 #[derive(Clone, Copy, Debug)]
 pub enum Name {
+    Version,
+    RefusalWords { number: u8 },
     Check,
     CheckPanel,
     Count { ports: u8 },
@@ -20,8 +22,10 @@ pub enum Name {
     WriteLine,
     ReadLine { place: usize },
     Begin,
+    Status,
     Request,
     Report { kind: u8 },
+    ReportMark { mark: u64, kind: u8 },
     Resume,
     Rehearse,
     Orders,
@@ -74,6 +78,8 @@ impl fmt::Debug for Outcome {
 
 /// The calls of one side.
 pub struct Side {
+    version: fn(&mut Answer) -> u8,
+    refusal_words: fn(u8, &mut [u8], &mut Answer) -> u8,
     check: fn(&[u8], &mut Answer) -> u8,
     check_panel: fn(&[u8], &mut Answer) -> u8,
     count: fn(u8, &mut Answer) -> u8,
@@ -88,8 +94,10 @@ pub struct Side {
     write_line: fn(&[u64; 4], &mut [u8], &mut Answer) -> u8,
     read_line: fn(&[u8], usize, &mut Answer) -> u8,
     begin: fn(&[u8], &mut [u64], &mut Answer) -> u8,
+    status: fn(&[u64], &mut Answer) -> u8,
     request: fn(&mut [u64], &mut [u8], &mut Answer) -> u8,
     report: fn(&mut [u64], u8, &mut Answer) -> u8,
+    report_mark: fn(&mut [u64], u64, u8, &mut Answer) -> u8,
     resume: fn(&mut [u64], &[u8], &mut Answer) -> u8,
     rehearse: fn(&[u8], &mut [u64], &mut Answer) -> u8,
     orders: fn(&mut [u64], &mut [u8], &mut Answer) -> u8,
@@ -100,6 +108,8 @@ macro_rules! side {
     ($calls:path) => {{
         use $calls as calls;
         Side {
+            version: calls::version,
+            refusal_words: calls::refusal_words,
             check: calls::check,
             check_panel: calls::check_panel,
             count: calls::count,
@@ -114,8 +124,10 @@ macro_rules! side {
             write_line: calls::write_line,
             read_line: calls::read_line,
             begin: calls::begin,
+            status: calls::status,
             request: calls::request,
             report: calls::report,
+            report_mark: calls::report_mark,
             resume: calls::resume,
             rehearse: calls::rehearse,
             orders: calls::orders,
@@ -169,6 +181,8 @@ impl Side {
             words.try_into().expect("a line has four words")
         }
         let number = match call.name {
+            Name::Version => (self.version)(answer),
+            Name::RefusalWords { number } => (self.refusal_words)(number, bytes, answer),
             Name::Check => (self.check)(bytes, answer),
             Name::CheckPanel => (self.check_panel)(bytes, answer),
             Name::Count { ports } => (self.count)(ports, answer),
@@ -183,8 +197,10 @@ impl Side {
             Name::WriteLine => (self.write_line)(line(words), bytes, answer),
             Name::ReadLine { place } => (self.read_line)(bytes, place, answer),
             Name::Begin => (self.begin)(bytes, words, answer),
+            Name::Status => (self.status)(words, answer),
             Name::Request => (self.request)(words, bytes, answer),
             Name::Report { kind } => (self.report)(words, kind, answer),
+            Name::ReportMark { mark, kind } => (self.report_mark)(words, mark, kind, answer),
             Name::Resume => (self.resume)(words, bytes, answer),
             Name::Rehearse => (self.rehearse)(bytes, words, answer),
             Name::Orders => (self.orders)(words, bytes, answer),

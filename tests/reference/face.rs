@@ -6,6 +6,8 @@ pub type Answer = [u64; 5];
 /// The declarations of the header, call by call.
 pub mod raw {
     extern "C" {
+        pub fn jidrofex_version(answer: *mut u64) -> u8;
+        pub fn jidrofex_refusal_words(number: u8, buffer: *mut u8, bytes: usize, answer: *mut u64) -> u8;
         pub fn jidrofex_check(pattern: *const u8, ports: usize, answer: *mut u64) -> u8;
         pub fn jidrofex_check_panel(panel: *const u8, ports: usize, answer: *mut u64) -> u8;
         pub fn jidrofex_count(ports: u8, answer: *mut u64) -> u8;
@@ -20,12 +22,22 @@ pub mod raw {
         pub fn jidrofex_write_line(line: *const u64, buffer: *mut u8, bytes: usize, answer: *mut u64) -> u8;
         pub fn jidrofex_read_line(text: *const u8, bytes: usize, place: usize, answer: *mut u64) -> u8;
         pub fn jidrofex_begin(text: *const u8, bytes: usize, state: *mut u64, words: usize, answer: *mut u64) -> u8;
+        pub fn jidrofex_status(state: *const u64, words: usize, answer: *mut u64) -> u8;
         pub fn jidrofex_request(state: *mut u64, words: usize, buffer: *mut u8, bytes: usize, answer: *mut u64) -> u8;
         pub fn jidrofex_report(state: *mut u64, words: usize, kind: u8, answer: *mut u64) -> u8;
+        pub fn jidrofex_report_mark(state: *mut u64, words: usize, mark: u64, kind: u8, answer: *mut u64) -> u8;
         pub fn jidrofex_resume(state: *mut u64, words: usize, panel: *const u8, ports: usize, answer: *mut u64) -> u8;
         pub fn jidrofex_rehearse(text: *const u8, bytes: usize, rehearsal: *mut u64, words: usize, answer: *mut u64) -> u8;
         pub fn jidrofex_orders(rehearsal: *mut u64, words: usize, buffer: *mut u8, bytes: usize, answer: *mut u64) -> u8;
     }
+}
+
+pub fn version(answer: &mut Answer) -> u8 {
+    unsafe { raw::jidrofex_version(answer.as_mut_ptr()) }
+}
+
+pub fn refusal_words(number: u8, buffer: &mut [u8], answer: &mut Answer) -> u8 {
+    unsafe { raw::jidrofex_refusal_words(number, buffer.as_mut_ptr(), buffer.len(), answer.as_mut_ptr()) }
 }
 
 pub fn check(pattern: &[u8], answer: &mut Answer) -> u8 {
@@ -84,12 +96,20 @@ pub fn begin(text: &[u8], state: &mut [u64], answer: &mut Answer) -> u8 {
     unsafe { raw::jidrofex_begin(text.as_ptr(), text.len(), state.as_mut_ptr(), state.len(), answer.as_mut_ptr()) }
 }
 
+pub fn status(state: &[u64], answer: &mut Answer) -> u8 {
+    unsafe { raw::jidrofex_status(state.as_ptr(), state.len(), answer.as_mut_ptr()) }
+}
+
 pub fn request(state: &mut [u64], buffer: &mut [u8], answer: &mut Answer) -> u8 {
     unsafe { raw::jidrofex_request(state.as_mut_ptr(), state.len(), buffer.as_mut_ptr(), buffer.len(), answer.as_mut_ptr()) }
 }
 
 pub fn report(state: &mut [u64], kind: u8, answer: &mut Answer) -> u8 {
     unsafe { raw::jidrofex_report(state.as_mut_ptr(), state.len(), kind, answer.as_mut_ptr()) }
+}
+
+pub fn report_mark(state: &mut [u64], mark: u64, kind: u8, answer: &mut Answer) -> u8 {
+    unsafe { raw::jidrofex_report_mark(state.as_mut_ptr(), state.len(), mark, kind, answer.as_mut_ptr()) }
 }
 
 pub fn resume(state: &mut [u64], panel: &[u8], answer: &mut Answer) -> u8 {

@@ -1,14 +1,20 @@
 //! The groups of the differential test: which calls are made on which inputs. A group either goes over a fixed set of cases, or makes one case after
 //! another from a generator of numbers until it has compared its share.
 
+mod campaigns;
 mod fixed;
 mod made;
+mod numbered;
+mod rehearsals;
 
 use crate::calls::Name;
 use crate::inputs::Rng;
 use crate::Harness;
+use campaigns::*;
 use fixed::*;
 use made::*;
+use numbered::*;
+use rehearsals::*;
 
 pub enum Work {
     /// A fixed set of cases.
@@ -24,13 +30,15 @@ pub struct Group {
     pub meets: &'static [u8],
 }
 
-pub const GROUPS: [Group; 34] = [
+pub const GROUPS: [Group; 39] = [
+    Group { name: "library", work: Work::Whole(library), meets: &[0, 2] },
     Group { name: "count", work: Work::Whole(count), meets: &[0, 1] },
     Group { name: "circuits", work: Work::Whole(circuits), meets: &[0] },
     Group { name: "joins", work: Work::Whole(joins), meets: &[0] },
     Group { name: "long texts", work: Work::Whole(long_texts), meets: &[8, 11] },
     Group { name: "null", work: Work::Whole(null_pointers), meets: &[1, 2, 11, 15] },
     Group { name: "errors", work: Work::Whole(errors), meets: &[0, 15, 16] },
+    Group { name: "kinds", work: Work::Whole(kinds), meets: &[0, 12, 14] },
     Group { name: "words", work: Work::Whole(words), meets: &[0, 12, 13, 14, 15] },
     Group { name: "words of rehearsals", work: Work::Whole(rehearsal_words), meets: &[0, 15] },
     Group { name: "crossing", work: Work::Share(2, crossing), meets: &[0] },
@@ -52,6 +60,9 @@ pub const GROUPS: [Group; 34] = [
     Group { name: "reached states", work: Work::Share(5, reached_states), meets: &[0, 2, 12, 13, 14, 16] },
     Group { name: "damaged states", work: Work::Share(8, damaged_states), meets: &[0, 12, 13, 15] },
     Group { name: "random states", work: Work::Share(3, random_states), meets: &[0, 12, 15] },
+    Group { name: "status", work: Work::Share(4, status), meets: &[0, 15] },
+    Group { name: "report_mark", work: Work::Share(5, report_mark), meets: &[0, 12, 14, 15, 16] },
+    Group { name: "sent twice", work: Work::Share(10, sent_twice), meets: &[0, 12, 14] },
     Group { name: "resume", work: Work::Share(6, resume), meets: &[0, 1, 3, 4, 15] },
     Group { name: "cuts", work: Work::Share(8, cuts), meets: &[0, 2, 12, 13, 14] },
     Group { name: "rehearse", work: Work::Share(3, rehearse), meets: &[0, 1, 6, 7, 8, 9, 10, 11, 15] },

@@ -1,16 +1,28 @@
 //! Groups that go over a fixed set of cases.
 
-use super::made::{begin_on, on_rehearsal, on_state};
+use super::campaigns::{begin_on, on_state};
+use super::rehearsals::on_rehearsal;
 use crate::calls::{Call, Name};
 use crate::inputs::{self, Rng};
 use crate::Harness;
 use face::raw;
-use reference::campaign::{ERRORS, STANDING, WORDS};
+use reference::campaign::{COVERED, ERRORS, OPEN, STANDING, WORDS};
 use reference::list::{at, count_of};
 use reference::plan::{Leg, Plan};
 use reference::rehearsal::REHEARSAL_WORDS;
 use reference::told;
 use std::ptr::{null, null_mut};
+
+/// The version; and every byte as the number of a refusal, with every buffer about as long as its words.
+pub fn library(h: &mut Harness) {
+    let mut rng = Rng::of(h.seed, "library", 0);
+    h.compare(Call::plain(Name::Version));
+    for number in 0..=255 {
+        for bytes in 0..=60 {
+            h.compare(Call::on_bytes(Name::RefusalWords { number }, rng.bytes(bytes)));
+        }
+    }
+}
 
 /// Every byte as a number of ports.
 pub fn count(h: &mut Harness) {
@@ -76,7 +88,8 @@ pub fn null_pointers(h: &mut Harness) {
     }
     const LINE: [u64; 4] = [4, 5, 0, 0];
     const PANEL: [u8; 2] = [2, 1];
-    let calls: [(&str, Made, Made); 18] = [
+    let calls: [(&str, Made, Made); 22] = [
+        ("refusal_words", |a| unsafe { raw::jidrofex_refusal_words(0, null_mut(), 0, a.as_mut_ptr()) }, |a| told::refusal_words(0, &mut [], a)),
         ("check", |a| unsafe { raw::jidrofex_check(null(), 0, a.as_mut_ptr()) }, |a| told::check(&[], a)),
         ("check_panel", |a| unsafe { raw::jidrofex_check_panel(null(), 0, a.as_mut_ptr()) }, |a| told::check_panel(&[], a)),
         ("rank", |a| unsafe { raw::jidrofex_rank(null(), 0, a.as_mut_ptr()) }, |a| told::rank(&[], a)),
@@ -91,7 +104,10 @@ pub fn null_pointers(h: &mut Harness) {
         ("read_line", |a| unsafe { raw::jidrofex_read_line(null(), 0, usize::MAX, a.as_mut_ptr()) }, |a| told::read_line(&[], usize::MAX, a)),
         ("begin", |a| unsafe { raw::jidrofex_begin(null(), 0, null_mut(), 0, a.as_mut_ptr()) }, |a| told::begin(&[], &mut [], a)),
         ("rehearse", |a| unsafe { raw::jidrofex_rehearse(null(), 0, null_mut(), 0, a.as_mut_ptr()) }, |a| told::rehearse(&[], &mut [], a)),
+        ("status", |a| unsafe { raw::jidrofex_status(null(), 0, a.as_mut_ptr()) }, |a| told::status(&[], a)),
         ("report", |a| unsafe { raw::jidrofex_report(null_mut(), 0, 0, a.as_mut_ptr()) }, |a| told::report(&mut [], 0, a)),
+        ("report_mark", |a| unsafe { raw::jidrofex_report_mark(null_mut(), 0, 0, 0, a.as_mut_ptr()) }, |a| told::report_mark(&mut [], 0, 0, a)),
+        ("report_mark", |a| unsafe { raw::jidrofex_report_mark(null_mut(), 0, 0, 3, a.as_mut_ptr()) }, |a| told::report_mark(&mut [], 0, 3, a)),
         ("request", |a| unsafe { raw::jidrofex_request(null_mut(), 0, null_mut(), 0, a.as_mut_ptr()) }, |a| told::request(&mut [], &mut [], a)),
         ("resume", |a| unsafe { raw::jidrofex_resume(null_mut(), 0, null(), 0, a.as_mut_ptr()) }, |a| told::resume(&mut [], &[], a)),
         ("resume", |a| unsafe { raw::jidrofex_resume(null_mut(), 0, PANEL.as_ptr(), 2, a.as_mut_ptr()) }, |a| told::resume(&mut [], &PANEL, a)),
@@ -122,7 +138,7 @@ pub fn null_pointers(h: &mut Harness) {
     }
 }
 
-/// Errors at their limit: a standing mark with 65,533 errors and up, each report twice over, and the request between.
+/// Errors at their limit: a standing mark with 65,533 errors and up, each report twice over, plain and by number, and the request between.
 pub fn errors(h: &mut Harness) {
     let plan = Plan { ports: 5, legs: vec![Leg { start: 7, run: -3 }] };
     let first = h.compare(Call::on_both(Name::Begin, inputs::plan_text(&plan), vec![0; WORDS])).words;
@@ -135,11 +151,31 @@ pub fn errors(h: &mut Harness) {
     };
     for errors in [0, 1, 65_533, 65_534, 65_535, 65_536, 65_537, 131_071, 1 << 32, u64::MAX] {
         for kinds in [[1, 1], [1, 0], [1, 2], [0, 1], [2, 1]] {
-            let mut state = standing.clone();
-            state[ERRORS] = errors;
-            for kind in kinds {
-                state = h.compare(Call::on_both(Name::Report { kind }, vec![], state)).words;
-                state = h.compare(Call::on_both(Name::Request, vec![0; 45], state)).words;
+            for by_number in [false, true] {
+                let mut state = standing.clone();
+                state[ERRORS] = errors;
+                for kind in kinds {
+                    let mark = state[COVERED] + state[OPEN];
+                    let name = if by_number { Name::ReportMark { mark, kind } } else { Name::Report { kind } };
+                    state = h.compare(Call::on_both(name, vec![], state)).words;
+                    state = h.compare(Call::on_both(Name::Request, vec![0; 45], state)).words;
+                }
+            }
+        }
+    }
+}
+
+/// Reports by number with every byte as the kind: of the standing or next mark, of those beside it, of the first, and of none.
+pub fn kinds(h: &mut Harness) {
+    let mut rng = Rng::of(h.seed, "kinds", 0);
+    for standing in [true, false] {
+        for _ in 0..6 {
+            let state = (0..).map(|_| inputs::reached(&mut rng)).find(|state| state.standing == standing).expect("one of many").to_words();
+            let number = state[COVERED] + state[OPEN];
+            for mark in [number, number.wrapping_add(1), number.wrapping_sub(1), 0, u64::MAX] {
+                for kind in 0..=255 {
+                    h.compare(Call::on_both(Name::ReportMark { mark, kind }, vec![], state.to_vec()));
+                }
             }
         }
     }
@@ -157,6 +193,7 @@ pub fn words(h: &mut Harness) {
                 let mut changed = state.to_vec();
                 changed[place] = value;
                 h.compare(Call::on_both(Name::Resume, reached.panel.clone(), changed.clone()));
+                h.compare(Call::on_both(Name::Status, vec![], changed.clone()));
                 on_state(h, &mut rng, changed);
             }
         }
@@ -164,7 +201,7 @@ pub fn words(h: &mut Harness) {
             let mut other = state.to_vec();
             other.resize(length, 0);
             h.compare(Call::on_both(Name::Resume, reached.panel.clone(), other.clone()));
-            for name in [Name::Request, Name::Report { kind: 0 }, Name::Begin] {
+            for name in [Name::Request, Name::Report { kind: 0 }, Name::ReportMark { mark: 0, kind: 0 }, Name::Status, Name::Begin] {
                 h.compare(Call::on_both(name, b"ports=2\nlegs=1\nstart=0\nrun=0\n".to_vec(), other.clone()));
             }
         }
@@ -197,7 +234,7 @@ pub fn rehearsal_words(h: &mut Harness) {
         let state = inputs::reached(&mut rng);
         h.compare(Call::on_both(Name::Orders, vec![0; 90], state.to_words().to_vec()));
         h.compare(Call::on_both(Name::Resume, state.panel, rehearsal.to_vec()));
-        for name in [Name::Request, Name::Report { kind: 0 }, Name::Report { kind: 3 }] {
+        for name in [Name::Request, Name::Report { kind: 0 }, Name::Report { kind: 3 }, Name::ReportMark { mark: 0, kind: 0 }, Name::Status] {
             h.compare(Call::on_both(name, vec![0; 45], rehearsal.to_vec()));
         }
     }

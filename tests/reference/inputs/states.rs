@@ -84,6 +84,44 @@ pub fn damage_pair(rng: &mut Rng, words: &mut [u64]) {
     }
 }
 
+/// A reached state with one word or two changed, or words of another number.
+pub fn damaged_state(rng: &mut Rng) -> Vec<u64> {
+    let mut words = reached(rng).to_words().to_vec();
+    match rng.below(6) {
+        0 => damage_pair(rng, &mut words),
+        1 => words.resize(rng.pick(&[0, 1, REHEARSAL_WORDS, 60, 62, 122]), 0),
+        _ => {
+            let place = rng.below(WORDS);
+            damage_word(rng, &mut words, place);
+        }
+    }
+    words
+}
+
+/// Words that are a state that calls leave, a damaged one, or one taken by chance.
+pub fn any_state(rng: &mut Rng) -> Vec<u64> {
+    match rng.below(10) {
+        0 => random_state(rng),
+        1..=3 => damaged_state(rng),
+        _ => reached(rng).to_words().to_vec(),
+    }
+}
+
+/// The number of a mark: mostly that of the standing or next one, which is as many as are closed; beside it; its step in the leg; or any.
+pub fn mark_near(rng: &mut Rng, words: &[u64]) -> u64 {
+    if words.len() != WORDS {
+        return wide(rng);
+    }
+    let number = words[COVERED].wrapping_add(words[OPEN]);
+    match rng.below(12) {
+        0 => number.wrapping_add(1),
+        1 => number.wrapping_sub(1),
+        2 => rng.pick(&[0, words[STEP], words[COVERED], number ^ (1 << 32), number ^ (1 << 63), number.wrapping_add(256), u64::MAX]),
+        3 => wide(rng),
+        _ => number,
+    }
+}
+
 /// A state of words taken by chance, each mostly within its own range.
 pub fn random_state(rng: &mut Rng) -> Vec<u64> {
     if rng.chance(10) {
