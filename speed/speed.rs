@@ -1,6 +1,7 @@
 //! The speed table, as Markdown: nanoseconds a call of the proved library beside the plain Rust reference, in the same process and run, and the
 //! deepest stack of each call. Each time is the median of several runs with the least and the most; nothing is asserted of any.
 
+mod campaign;
 mod stack;
 
 use face::Answer;
@@ -212,34 +213,6 @@ fn rehearsed(n: usize) -> (Vec<u8>, Vec<u64>) {
     (plan, rehearsal)
 }
 
-type Request = fn(&mut [u64], &mut [u8], &mut Answer) -> u8;
-type Report = fn(&mut [u64], u8, &mut Answer) -> u8;
-
-/// 256 marks of a leg, each with the orders that lead to it and its report. From the leg's start each time.
-fn marks(first: &[u64], request: Request, report: Report) -> usize {
-    let (mut state, mut line, mut answer) = (first.to_vec(), [0; 45], [0; 5]);
-    let mut met = 0;
-    while met < 256 {
-        assert_eq!(request(&mut state, &mut line, &mut answer), 0);
-        if answer[0] == 3 {
-            assert_eq!(report(&mut state, 0, &mut answer), 0);
-            met += 1;
-        }
-    }
-    met
-}
-
-fn campaign_table() {
-    println!("\n## Request and report inside a leg\n");
-    println!("Nanoseconds a mark: the requests for its orders (one or two), the request for the mark, the report.\n");
-    println!("| ports | library | reference |\n|---|---|---|");
-    for n in PORTS {
-        let first = begun(n).1;
-        let (library, reference) = (time(|| marks(&first, face::request, face::report)), time(|| marks(&first, told::request, told::report)));
-        println!("| {n} | {} | {} |", library.shown(), reference.shown());
-    }
-}
-
 /// Every line of a rehearsal by jidrofex_orders.
 fn library_prints(first: &[u64], buffer: &mut [u8]) -> usize {
     let (mut rehearsal, mut answer, mut lines) = (first.to_vec(), [0; 5], 0);
@@ -300,7 +273,7 @@ fn main() {
     println!("Machine: {}. Medians of {} runs, least and most in brackets.", machine(), effort().runs);
     calls_table();
     circuits_table();
-    campaign_table();
+    campaign::campaign_table();
     printer_table();
     stack::stack_table();
 }

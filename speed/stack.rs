@@ -1,5 +1,6 @@
 //! The deepest stack of each call.
 
+use super::campaign::standing_mark;
 use super::{begun, patterns, rehearsed};
 use face::Answer;
 use reference::campaign::{PANEL, STANDING};
@@ -83,13 +84,18 @@ fn for_report(lent: &mut Lent) {
     }
 }
 
-/// One call further on, and the state's own panel read back.
-fn for_resume(lent: &mut Lent) {
+/// One call further on.
+fn for_status(lent: &mut Lent) {
     if lent.state[STANDING] == 1 {
         for_request(lent);
     } else {
         face::request(&mut lent.state, &mut lent.buffer, &mut lent.answer);
     }
+}
+
+/// One call further on, and the state's own panel read back.
+fn for_resume(lent: &mut Lent) {
+    for_status(lent);
     let panel = &lent.state[PANEL..PANEL + lent.pattern.len()];
     lent.pattern.copy_from_slice(&panel.iter().map(|&port| port as u8).collect::<Vec<_>>());
 }
@@ -102,6 +108,8 @@ pub fn stack_table() {
     let plan = &begun(20).0;
     let nothing = |_: &mut Lent| {};
     let show = |name: &str, bytes: usize| println!("| {name} | {bytes} |");
+    show("version", deepest(nothing, |l| accepted(face::version(&mut l.answer))));
+    show("refusal_words", deepest(nothing, |l| accepted(face::refusal_words(l.pattern[0], &mut l.buffer, &mut l.answer))));
     show("check", deepest(nothing, |l| accepted(face::check(&l.pattern, &mut l.answer))));
     show("check_panel", deepest(nothing, |l| accepted(face::check_panel(&l.pattern, &mut l.answer))));
     show("count", deepest(nothing, |l| accepted(face::count(20, &mut l.answer))));
@@ -116,8 +124,14 @@ pub fn stack_table() {
     show("write_line", deepest(nothing, |l| accepted(face::write_line(&[3, u64::MAX, u64::MAX, 0], &mut l.buffer, &mut l.answer))));
     show("read_line", deepest(nothing, |l| accepted(face::read_line(LONGEST, 0, &mut l.answer))));
     show("begin", deepest(nothing, |l| accepted(face::begin(plan, &mut l.state, &mut l.answer))));
+    show("status", deepest(for_status, |l| accepted(face::status(&l.state, &mut l.answer))));
     show("request", deepest(for_request, |l| accepted(face::request(&mut l.state, &mut l.buffer, &mut l.answer))));
     show("report", deepest(for_report, |l| accepted(face::report(&mut l.state, 0, &mut l.answer))));
+    let report_mark = |l: &mut Lent| {
+        let mark = standing_mark(&l.state);
+        accepted(face::report_mark(&mut l.state, mark, 0, &mut l.answer));
+    };
+    show("report_mark", deepest(for_report, report_mark));
     show("resume", deepest(for_resume, |l| accepted(face::resume(&mut l.state, &l.pattern, &mut l.answer))));
     show("rehearse", deepest(nothing, |l| accepted(face::rehearse(plan, &mut l.rehearsal, &mut l.answer))));
     show("orders", deepest(nothing, |l| accepted(face::orders(&mut l.rehearsal, &mut l.buffer, &mut l.answer))));
