@@ -107,6 +107,7 @@ chmod +x "$gate_copies/stand-in"
 on_path other-kit rt "the kit is 'rattle-kit-5 logic 0000000000000000'"
 on_path no-rustc rustc 'the command rustc is missing: install the Debian package rustc'
 on_path no-cc cc 'the command cc is missing: install the Debian package gcc'
+on_path no-c++ c++ 'the command c++ is missing: install the Debian package g++'
 
 # ---- the parts
 if out=$(./test gates 2>&1); then fail 'gate: a part that there is not is run'; else

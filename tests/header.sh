@@ -1,0 +1,159 @@
+# The header: include/jidrofex.h held to the code. A program in C that makes every call and uses every constant, through the header alone, finds the paper's answers,
+# built as C90 and as C++98. The declarations are those of the functions of crates/face_*, and the declarations in Rust are the header's. The numbers at each call are
+# those of demands.One.DemandOne, the constants those of the code. And this part itself: each header that is wrong in one thing is refused, and where it is a constant,
+# by the program in C.
+header_out=target/header
+header_archive=target/host/libjidrofex.a
+
+# ---- what the header says, and what the code says, in the lines of tests/header/read.awk
+
+# header_lines SUBJECT: of those lines the ones that are declarations, or the ones with numbers. The constants that stand nowhere in the code the program in C holds
+# alone.
+header_lines() {
+    case $1 in
+        declarations) grep -E '^(call|unknown) ' ;;
+        numbers) grep -E '^(refused|constant) ' | grep -vE '^constant JIDROFEX_(ACCEPTED|LINE_BYTES|ANY_LINE_BYTES|PLAN_BYTES|WORDS_BYTES) ' ;;
+    esac | sort
+}
+
+# header_said FILE SUBJECT: what a header says
+header_said() { awk -f tests/header/read.awk "$1" | header_lines "$2"; }
+
+# header_same FILE SUBJECT: a header says what the code says
+header_same() { header_said "$1" "$2" | cmp -s - "$header_out/$2"; }
+
+header_code() {
+    awk -f tests/header/code.awk crates/words/src/limits.rt crates/words/src/refusals.rt crates/campaign/src/lib.rt crates/face_*/src/*.rt \
+        crates/demands/specs/One.antt >"$header_out/code"
+    for header_subject in declarations numbers; do header_lines "$header_subject" <"$header_out/code" >"$header_out/$header_subject"; done
+}
+
+# header_holds SUBJECT LABEL: the header says what the code says; else the lines that differ are shown, the header's with <
+header_holds() {
+    if [ -s "$header_out/$1" ] && header_same include/jidrofex.h "$1"; then
+        pass "header: $2: $(($(wc -l <"$header_out/$1")))"
+    else
+        header_said include/jidrofex.h "$1" | diff - "$header_out/$1"
+        fail "header: not so: $2"
+    fi
+}
+
+# the declarations in Rust, of which the differential test has all
+header_rust() {
+    awk -f tests/header/read.awk include/jidrofex.h >"$header_out/said"
+    find tests speed examples -name '*.rs' -exec awk -v whole=tests/reference/face.rs -f tests/header/rust.awk "$header_out/said" {} + >"$header_out/log"
+    if grep -qx 'declared [1-9][0-9]*' "$header_out/log" && [ "$(wc -l <"$header_out/log")" -eq 1 ]; then
+        pass "header: the declarations in Rust are the header's, those of the differential test all of them: $(sed 's/declared //' "$header_out/log")"
+    else
+        cat "$header_out/log"
+        fail 'header: a declaration in Rust is not the one of the header, or the differential test lacks one'
+    fi
+}
+
+# ---- what the program in C finds
+
+# header_program LANGUAGE COMMAND..: the command builds the program, and all its comparisons hold; $header_compared is how many
+header_program() {
+    header_language=$1
+    shift
+    header_compared=
+    if ! "$@" >"$header_out/log" 2>&1; then
+        cat "$header_out/log"
+        fail "header: the program does not build as $header_language"
+    elif "$header_out/program" >"$header_out/log" 2>&1 && tail -n 1 "$header_out/log" | grep -Eqx 'header: [1-9][0-9]* comparisons, 0 failed'; then
+        header_compared=$(sed -n '$s/^header: \([0-9]*\) .*/\1/p' "$header_out/log")
+    else
+        cat "$header_out/log"
+        fail "header: as $header_language a comparison does not hold"
+    fi
+}
+
+header_programs() {
+    header_uncalled=$(sed -n 's/^call uint8_t \(jidrofex_[a-z_]*\)(.*/\1/p' "$header_out/said" | while read -r call; do
+        grep -qF "$call(" tests/header/header.c || echo "$call"
+    done)
+    [ -z "$header_uncalled" ] || fail "header: the program does not call $(echo $header_uncalled)"
+    header_program C90 cc -std=c90 -pedantic -O2 -Wall -Wextra -Werror -Iinclude -o "$header_out/program" tests/header/header.c "$header_archive"
+    header_as_c90=$header_compared
+    header_program C++98 c++ -x c++ -std=c++98 -pedantic -O2 -Wall -Wextra -Werror -Iinclude -o "$header_out/program" tests/header/header.c -x none "$header_archive"
+    if [ -n "$header_as_c90" ] && [ "$header_as_c90" = "$header_compared" ]; then
+        pass "header: $header_compared comparisons as C90 and as C++98"
+    elif [ -n "$header_as_c90" ] && [ -n "$header_compared" ]; then
+        fail "header: $header_as_c90 comparisons as C90, and $header_compared as C++98"
+    fi
+}
+
+# ---- headers that are wrong in one thing
+
+# header_refused_by FILE KIND: what refuses this header first, or nothing; where a constant is wrong the program alone is asked
+header_refused_by() {
+    if [ "$2" != constant ]; then
+        for header_subject in declarations numbers; do
+            header_same "$1" "$header_subject" || { echo "$header_subject"; return; }
+        done
+    fi
+    cp "$1" "$header_out/edited/jidrofex.h"
+    if ! cc -std=c90 -O0 -I"$header_out/edited" -o "$header_out/edited/program" tests/header/header.c "$header_archive" >"$header_out/log" 2>&1; then
+        echo compiler
+    elif ! "$header_out/edited/program" >"$header_out/log" 2>&1; then
+        tail -n 1 "$header_out/log" | grep -Eqx 'header: [0-9]* comparisons, [1-9][0-9]* failed' && echo comparisons || echo crash
+    fi
+}
+
+# how many edits there have to be, by what the header says: each constant one more, each pair of a call's parameters, each last number dropped
+header_expected() {
+    awk '
+        $1 == "constant" { constants++ }
+        $1 == "call" { n = gsub(/,/, "") + 1; pairs += n * (n - 1) / 2 }
+        $1 == "refused" && $3 != "never" { lists++ }
+        END { print constants " constants, " pairs " pairs of parameters, " lists " lists" }' "$header_out/said"
+}
+header_made() {
+    awk '
+        $2 == "constant" && / one more$/ { constants++ }
+        $2 == "parameters" { pairs++ }
+        $2 == "numbers" && / dropped$/ { lists++ }
+        END { print constants " constants, " pairs " pairs of parameters, " lists " lists" }' "$header_out/edits/list"
+}
+
+header_edits() {
+    rm -rf "$header_out/edits" "$header_out/edited"
+    mkdir -p "$header_out/edits" "$header_out/edited"
+    awk -v folder="$header_out/edits" -f tests/header/edits.awk include/jidrofex.h >"$header_out/edits/list"
+    if [ "$(header_made)" != "$(header_expected)" ]; then
+        fail "header: the edits are of $(header_made), and the header has $(header_expected)"
+        return
+    fi
+    # the header as it is, judged as the edited ones are: else they might be refused for nothing
+    header_by=$(header_refused_by include/jidrofex.h none)
+    if [ -n "$header_by" ]; then
+        fail "header: no edited header is tried, since the header itself is refused by its $header_by"
+        return
+    fi
+    while read -r header_number header_kind header_what; do
+        header_by=$(header_refused_by "$header_out/edits/$header_number.h" "$header_kind")
+        echo "${header_by:-nothing} $header_kind $header_what"
+    done <"$header_out/edits/list" >"$header_out/judged"
+    if grep -E '^nothing |^(compiler|crash) constant ' "$header_out/judged"; then
+        fail 'header: an edited header is refused by nothing, or a wrong constant by no comparison'
+    else
+        pass "header: $(grep -c ' constant ' "$header_out/judged") headers with a wrong constant, each refused by comparisons of the program in C"
+        pass "header: $(grep -vc ' constant ' "$header_out/judged") headers with wrong parameters or numbers, each refused: $(
+            cut -d ' ' -f 1,2 "$header_out/judged" | grep -v ' constant$' | sort | uniq -c | awk '{ printf "%s%d by the %s", (NR > 1 ? ", " : ""), $1, $2 }')"
+    fi
+}
+
+mkdir -p "$header_out"
+# an archive that is older than a file of crates/ would be a test of what was there before
+if [ ! -f "$header_archive" ] || [ -n "$(find crates -newer "$header_archive" -type f | head -n 1)" ]; then
+    rm -f "$header_archive"
+    tools/host-archive >"$header_out/log" 2>&1 || { cat "$header_out/log"; fail 'header: the library for this machine does not build'; }
+fi
+header_code
+header_holds declarations 'the declarations are those of the functions, by name, order and type'
+header_holds numbers 'the numbers at each call are those of demands.One.DemandOne in their order, the constants those of the code'
+header_rust
+if [ -f "$header_archive" ]; then
+    header_programs
+    header_edits
+fi

@@ -1,0 +1,112 @@
+# What the code says of the header, in the lines of read.awk: the calls from the functions of crates/face_*, the numbers of each call from the fields of
+# demands.One.DemandOne, the refusals from `reason_number`, the state's places and the other constants from where the code has them.
+
+BEGIN {
+    # what the length beside a slice is called
+    length_of["pattern"] = length_of["panel"] = "ports"
+    length_of["text"] = length_of["buffer"] = "bytes"
+    length_of["state"] = length_of["rehearsal"] = "words"
+    # the field that has the numbers of a call; 15 stands before those of a text that is read into words
+    fields = "check:check check_panel:checkPanel count:count rank:rank unrank:unrank next:beside previous:beside step:step port_at:portAt jack_of:jackOfPort" \
+        " carry:carry write_line:writeLine read_line:readLine begin:15+readPlan status:status request:asked report:reported report_mark:reportedMark" \
+        " resume:resume rehearse:15+rehearse orders:fill refusal_words:refusalWords version:never"
+    # the constants that have the header's name, less its beginning
+    names = " VERSION MOST_PORTS MOST_LEGS ANSWER_WORDS LINE_WORDS NOTHING SWAP TURN MARK END TWO_SWAPS RAN ERROR GAVE_UP "
+    sort_of["u8"] = "uint8_t"; sort_of["u64"] = "uint64_t"; sort_of["i64"] = "int64_t"; sort_of["usize"] = "size_t"
+}
+
+# ---- calls: a parameter of the code as the header has it
+
+function as_in_c(parameter,    name, type, constant, words) {
+    name = type = parameter
+    sub(/: .*/, "", name)
+    sub(/^[^:]*: /, "", type)
+    if (type in sort_of) return sort_of[type] " " name
+    constant = type ~ /^&mut / ? "" : "const "
+    sub(/^&(mut )?/, "", type)
+    if (type ~ /^\[u64; [A-Z_]+\]$/) {
+        words = type
+        gsub(/^\[u64; |\]$/, "", words)
+        return constant "uint64_t " name "[JIDROFEX_" words "]"
+    }
+    gsub(/[][]/, "", type)
+    if (type in sort_of && name in length_of) return constant sort_of[type] " *" name ", size_t " length_of[name]
+    return "unknown " parameter
+}
+
+/^pub extern "C" fn jidrofex_/ { signature = "" ; on = 1 }
+on { signature = signature " " $0 }
+on && /\) -> / {
+    on = 0
+    sub(/ ensures .*/, "", signature)
+    sub(/ [{].*/, "", signature)
+    gsub(/ +/, " ", signature)
+    name = parameters = signature
+    gsub(/^ pub extern "C" fn |\(.*/, "", name)
+    gsub(/^[^(]*\( ?|,? ?\) -> .*/, "", parameters)
+    told = ""
+    n = split(parameters, parameter, /, /)
+    for (k = 1; k <= n; k++) told = told (k > 1 ? ", " : "") as_in_c(parameter[k])
+    gives = signature
+    sub(/.*\) -> /, "", gives)
+    sub(/ $/, "", gives)
+    print "call " (gives in sort_of ? sort_of[gives] : "unknown") " " name "(" told ")"
+}
+
+# ---- numbers: the list of a field, after Refuses or a word that begins with it
+
+/^  pub [A-Za-z]+ :/ { field = $2 }
+/^  --/ { field = "" }
+field != "" && match($0, /Refuses[A-Za-z]* \([0-9]+ [^)]*\[\]\)/) && !(field in numbers) {
+    list = substr($0, RSTART, RLENGTH)
+    gsub(/^Refuses[A-Za-z]* \(| [^ ]+ \[\]\)$/, "", list)
+    gsub(/ [^ 0-9]+ /, " ", list)
+    numbers[field] = list
+}
+
+# ---- constants
+
+# OwnJack is OWN_JACK
+function in_capitals(name,    told, k, letter) {
+    for (k = 1; k <= length(name); k++) {
+        letter = substr(name, k, 1)
+        told = told (k > 1 && letter ~ /[A-Z]/ ? "_" : "") toupper(letter)
+    }
+    return told
+}
+
+/^ +Reason::[A-Za-z]+ => [0-9]+,$/ && FILENAME ~ /\/refusals\.rt$/ {
+    name = $1
+    sub(/.*:/, "", name)
+    print "constant JIDROFEX_REFUSED_" in_capitals(name) " " $3 + 0
+}
+
+# a sum of numbers and of constants that came before
+function sum_of(text,    part, k, n, sum) {
+    gsub(/ as [a-z0-9]+|;/, "", text)
+    n = split(text, part, / [+] /)
+    for (k = 1; k <= n; k++) sum += part[k] ~ /^[0-9]+$/ ? part[k] : value[part[k]]
+    return sum
+}
+
+/^(pub )?const [A-Z_0-9]+: u[a-z0-9]+ = / {
+    name = type = text = $0
+    gsub(/^(pub )?const |:.*/, "", name)
+    gsub(/^[^:]*: | =.*/, "", type)
+    sub(/^[^=]*= /, "", text)
+    value[name] = sum_of(text)
+    if (FILENAME ~ /\/places\.rt$/ && type == "usize")
+        print "constant JIDROFEX_" (name ~ /^(STATE|REHEARSAL)_/ ? "" : "STATE_") name " " value[name]
+    else if (index(names, " " name " "))
+        print "constant JIDROFEX_" name " " value[name]
+}
+
+END {
+    n = split(fields, pair, " ")
+    for (k = 1; k <= n; k++) {
+        split(pair[k], part, ":")
+        list = part[2]
+        first = sub(/^15[+]/, "", list) ? "15 " : ""
+        print "refused jidrofex_" part[1] " " first (list == "never" ? "never" : list in numbers ? numbers[list] : "no field " list)
+    }
+}
