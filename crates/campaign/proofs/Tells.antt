@@ -18,10 +18,11 @@ use Rattle.words.proofs.Told.{not-both}
 use Rattle.promise.proofs.Refusals.{stands-none}
 use Rattle.promise.specs.Campaign as model
 use Rattle.promise.specs.Campaign.{Call, request, reportTo, report, movement, mark, theEnd, taken, refusal, fit, offer}
+use Rattle.line_format.specs.Calls.{over}
 use Rattle.campaign_state.specs.State.{answerText, width, settingOf, momentOf}
 use Rattle.campaign_state.specs.Fitness.{placesFit}
 use Rattle.campaign_state.specs.declared.State.{State}
-use Rattle.campaign.specs.Calls.{answerOf, toldOf, after, leftOf, over, bytesOf, lineIs}
+use Rattle.campaign.specs.Calls.{answerOf, toldOf, after, leftOf, bytesOf, lineIs}
 use Rattle.campaign.specs.Answers.{answerTold, heardTold, RequestIs, ReportIs, UnheardIs}
 use Rattle.campaign.specs.declared.Requested.{Requested}
 use Rattle.campaign.specs.declared.Reported.{Reported}

@@ -16,11 +16,11 @@ use Rattle.words.proofs.Once.{order-back}
 use Rattle.words.proofs.Shape.{fits-more}
 use Rattle.words.proofs.Told.{not-both, accepted-once}
 use Rattle.line_format.specs.Format.{lineText}
-use Rattle.line_format.specs.Calls.{writeOf, writeBytes}
+use Rattle.line_format.specs.Calls.{over, writeOf, writeBytes}
 use Rattle.line_format.proofs.Written.{write-room, write-front}
 use Rattle.promise.specs.Campaign.{refusal}
 use Rattle.campaign_state.specs.State.{answerText, width}
-use Rattle.campaign.specs.Calls.{over, lineIs, roomed}
+use Rattle.campaign.specs.Calls.{lineIs, roomed}
 
 -- the text of the answer that a line is, is the line's
 pub text-of-line : (l : Line) → answerText (lineIs l) ≡ lineText l

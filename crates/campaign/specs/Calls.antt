@@ -3,9 +3,9 @@
 -- Assumes nothing.
 use Prim.Native.Nat.{ℕ}
 use mathlib.Core.Bool.{false, cond}
-use mathlib.Core.List.{List, _++_}
+use mathlib.Core.List.{List}
 use lib.Dec.{ltb}
-use lib.ListN.{length, drop}
+use lib.ListN.{length}
 use Rattle.listing.specs.Ends.{home}
 use Rattle.listing.specs.Limits.{mostPorts, mostLegs}
 use Rattle.words.specs.Meaning.{orderOf}
@@ -13,6 +13,7 @@ use Rattle.words.specs.declared.Line.{Line}
 use Rattle.words.specs.declared.Line.the-variants.{Movement, Mark, End}
 use Rattle.words.specs.Told.{Told, accepted, refused, nowhere}
 use Rattle.words.specs.Padded.{padded}
+use Rattle.line_format.specs.Calls.{over}
 use Rattle.plan_rules.specs.Places.{heldOf}
 use Rattle.plans.specs.Calls.{readPlanOf}
 use Rattle.plan_rules.specs.declared.Plan.{Plan}
@@ -41,10 +42,6 @@ after c a s = atMoment (model.after (settingOf s) c a (momentOf s)) s
 -- the state that is left
 unfoldable pub leftOf : Call → State → State
 leftOf c s = after c (answerOf c s) s
-
--- a text at the front of a buffer: later bytes keep their values
-abbrev pub over : List ℕ → List ℕ → List ℕ
-over t buf = t ++ drop (length t) buf
 
 -- the bytes that are left: 'a request also writes the order's line at the front of a lent buffer'; on a refusal all keep their values
 unfoldable pub bytesOf : State → List ℕ → List ℕ

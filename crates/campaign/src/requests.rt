@@ -23,10 +23,11 @@ ghost use Rattle.words.specs.Shape.{lineFits};
 ghost use Rattle.words.specs.declared.Place.the-variants.{Nowhere};
 ghost use Rattle.words.specs.declared.Line.the-variants.{Movement, Mark};
 ghost use Rattle.promise.specs.Campaign.{request, closedMarks, rankOf};
+ghost use Rattle.line_format.specs.Calls.{over};
 ghost use Rattle.campaign_state.specs.State.{settingOf, momentOf, answerText};
 ghost use Rattle.campaign_state.specs.Fitness.{InPlan};
 ghost use Rattle.campaign.specs.declared.Answer.the-variants.{Refused};
-ghost use Rattle.campaign.specs.Calls.{answerOf, toldOf, after, bytesOf, over, lineIs, roomed};
+ghost use Rattle.campaign.specs.Calls.{answerOf, toldOf, after, bytesOf, lineIs, roomed};
 ghost use Rattle.campaign.specs.Answers.{answerTold, RequestIs};
 
 // The mark that is next, with its number and rank.

@@ -12,7 +12,7 @@ use Rattle.line_writer.specs.declared.answers.Written.{Written}
 use Rattle.line_writer.specs.declared.answers.Written.the-variants.{Bytes, Refused}
 
 -- two answers that tell the same
-written-once : (r s : Written) → writtenTold r ≡ writtenTold s → r ≡ s
+pub written-once : (r s : Written) → writtenTold r ≡ writtenTold s → r ≡ s
 written-once (Bytes m) (Bytes n) e = cc
 written-once (Bytes m) (Refused g) e = cc
 written-once (Refused f) (Bytes n) e = cc

@@ -15,7 +15,6 @@ use Rattle.text_numbers.specs.Answers.{TextOf}
 use Rattle.text_numbers.specs.declared.Text.{Text}
 use Rattle.text_numbers.proofs.Lengths.{digits-at-most}
 use Rattle.text_keys.specs.Parts.{newline, comma}
-use Rattle.words.specs.Told.{accepted, refused, nowhere}
 use Rattle.words.specs.declared.Jack.{Jack}
 use Rattle.words.specs.declared.Order.{Order}
 use Rattle.words.specs.declared.Order.the-variants.{Swap, Turn}
@@ -23,8 +22,8 @@ use Rattle.words.specs.declared.Line.{Line}
 use Rattle.words.specs.declared.Line.the-variants.{Movement, Mark, End}
 use Rattle.line_format.specs.Format.{swapping, turning, marking, ending, key, listed, keyText, unended, lineText}
 use Rattle.words.specs.Shape.{lineFits}
-use Rattle.line_format.specs.Calls.{writeOf, writeBytes}
-use Rattle.line_format.proofs.Written.{write-room, write-front}
+use Rattle.line_format.specs.Calls.{roomOf, over, roomBytes, writeOf, writeBytes}
+use Rattle.line_format.proofs.Written.{write-fit}
 use Rattle.line_writer.specs.Answers.{Spells, Grown}
 use Rattle.line_writer.specs.declared.order_lines.Spelled.{Spelled}
 
@@ -138,14 +137,13 @@ atFront d s n = take n s ++ drop n d
 pub front-on : (d s : List ℕ) (j : ℕ) → j < length d → j < length s → set (atFront d s j) j (getD s j 0) ≡ atFront d s (j + 1)
 front-on d s j h l = rw (zero-add j, zero-add (j + 1)) at (copied-on d 0 s j (omega arith) l)
 
+-- all of them
+pub front-all : (d s : List ℕ) (n : ℕ) → n ≡ length s → atFront d s n ≡ over s d
+front-all d s n e = ap (atFront d s) e ∙ ap (λ t. t ++ drop (length s) d) (take-length s)
+
 -- ---- what is told of a line that is spelled
 
-module _ (jacks : ℕ) (l : Line) (buf : List ℕ) (s : Spelled) (fit : lineFits jacks l ≡ true) (spelt : Spells s (lineText l)) where
-  -- the buffer has no room for it
-  pub spelled-room : length buf < s .len → (refused 2 nowhere ≡ writeOf jacks l buf) × (buf ≡ writeBytes jacks l buf)
-  spelled-room h = write-room jacks l buf fit (omega (arith, spelt .len))
-
-  -- it is put at the front
-  pub spelled-front : s .len ≤ length buf
-      → (accepted (s .len) ≡ writeOf jacks l buf) × (take (s .len) (s .bytes) ++ drop (s .len) buf ≡ writeBytes jacks l buf)
-  spelled-front h = rw (spelt .front, spelt .len) (write-front jacks l buf fit (omega (arith, spelt .len)))
+-- what is written of what is spelled is what is written of the line
+pub spelled-told : (jacks : ℕ) (l : Line) (buf : List ℕ) (s : Spelled) → lineFits jacks l ≡ true → Spells s (lineText l)
+    → (roomOf (take (s .len) (s .bytes)) buf ≡ writeOf jacks l buf) × (roomBytes (take (s .len) (s .bytes)) buf ≡ writeBytes jacks l buf)
+spelled-told jacks l buf s fit spelt = rw (spelt .front) (write-fit jacks l buf fit)

@@ -10,14 +10,14 @@ use words::shapes::in_shape;
 ghost use mathlib.Core.Path.{_≡_};
 ghost use mathlib.Core.List.{_∷_, _++_};
 ghost use Prim.Native.Nat.{_+_, _≤_};
-ghost use lib.ListN.{length, take, drop};
+ghost use lib.ListN.{length};
 ghost use Rattle.words.specs.declared.Line.the-variants.{Movement};
 ghost use Rattle.listing.specs.Limits.{mostPorts};
 ghost use Rattle.text_numbers.specs.Decimal.{digitsOf};
 ghost use Rattle.text_keys.specs.Parts.{comma};
 ghost use Rattle.line_format.specs.Format.{unended};
 ghost use Rattle.words.specs.Shape.{lineFits};
-ghost use Rattle.line_format.specs.Calls.{writeOf, writeBytes};
+ghost use Rattle.line_format.specs.Calls.{roomOf, roomBytes, writeOf, writeBytes};
 ghost use Rattle.line_writer.specs.Answers.{writtenTold, longestLine, Spells, Grown};
 
 // The longest line that there is: `mark=`, two numbers of 20 digits with a comma between them, and the newline.
@@ -124,18 +124,21 @@ fn fits(line: Line) -> bool
     }
 }
 
-// A text put at the front of a buffer.
-fn put(s: Spelled, buf: &mut [u8])
-    requires { ⌜ (s .len ≤ length (s .bytes)) × (s .len ≤ length (now buf)) ⌝ }
-    ensures { λ _. ⌜ now (buf .exit) ≡ take (s .len) (s .bytes) ++ drop (s .len) (now (buf .entry)) ⌝ }
+// A text written at the front of a buffer.
+pub fn write_text(text: &[u8], buf: &mut [u8]) -> Written
+    ensures answer { λ r. ⌜ writtenTold r ≡ roomOf (now (text .entry)) (now (buf .entry)) ⌝ }
+    ensures bytes { λ _. ⌜ now (buf .exit) ≡ roomBytes (now (text .entry)) (now (buf .entry)) ⌝ }
 {
-    let n = s.len;
-    let bytes = s.bytes;
+    let n = text.len();
+    if buf.len() < n {
+        return Written::Refused(nowhere(Reason::Room));
+    }
     let mut at: usize = 0;
     while at < n {
-        buf[at] = bytes[at];
+        buf[at] = text[at];
         at += 1;
     }
+    Written::Bytes(n)
 }
 
 // A line written at the front of a buffer.
@@ -146,11 +149,8 @@ pub fn write_line(line: Line, buf: &mut [u8]) -> Written
     if fits(line) {
         let s = and_part(line_text(line), b"\n");
         let n = s.len;
-        if buf.len() < n {
-            return Written::Refused(nowhere(Reason::Room));
-        }
-        put(s, buf);
-        return Written::Bytes(n);
+        let bytes = s.bytes;
+        return write_text(&bytes[..n], buf);
     }
     Written::Refused(nowhere(Reason::Shape))
 }

@@ -10,9 +10,10 @@ use lib.ListN.{length, take, drop, length-drop, length-append}
 use Rattle.words.specs.Told.{Told, accepted}
 use Rattle.promise.specs.Campaign as model
 use Rattle.promise.specs.Campaign.{request}
+use Rattle.line_format.specs.Calls.{over}
 use Rattle.campaign_state.specs.State.{answerText, width}
 use Rattle.campaign_state.specs.declared.State.{State}
-use Rattle.campaign.specs.Calls.{answerOf, bytesOf, over}
+use Rattle.campaign.specs.Calls.{answerOf, bytesOf}
 use Rattle.campaign.proofs.Tells.{within-room}
 use Rattle.printing.specs.Printing.{sequel, more, Printout, inFront, onward, linesIn}
 use Rattle.printing.specs.Rehearsals.{stateOf}

@@ -12,9 +12,10 @@ use Rattle.words.specs.Told.{Told, Spot, accepted, refused}
 use Rattle.words.proofs.Told.{not-both}
 use Rattle.promise.specs.Campaign as model
 use Rattle.promise.specs.Campaign.{request, movement, mark, theEnd, taken, refusal}
+use Rattle.line_format.specs.Calls.{over}
 use Rattle.campaign_state.specs.State.{answerText, width}
 use Rattle.campaign_state.specs.declared.State.{State}
-use Rattle.campaign.specs.Calls.{answerOf, over}
+use Rattle.campaign.specs.Calls.{answerOf}
 use Rattle.printing.specs.Printing.{sequel, more, Printout, onward, linesIn}
 use Rattle.printing.specs.Rehearsals.{rehearsalOf, stateOf}
 use Rattle.printing.specs.Answers.{stopTold, fillOf, fillBytes}

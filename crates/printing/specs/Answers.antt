@@ -8,10 +8,11 @@ use lib.ListN.{length}
 use Rattle.words.specs.Told.{Told, accepted, refused, then}
 use Rattle.words.specs.Meaning.{refusalOf, outcomeTold}
 use Rattle.promise.specs.Campaign.{request}
+use Rattle.line_format.specs.Calls.{over}
 use Rattle.campaign_state.specs.State.{width}
 use Rattle.campaign_state.specs.declared.State.{State}
 use Rattle.plans.specs.Calls.{readPlanOf}
-use Rattle.campaign.specs.Calls.{answerOf, over, begunOf}
+use Rattle.campaign.specs.Calls.{answerOf, begunOf}
 use Rattle.printing.specs.Rehearsals.{rehearsalOf, stateOf}
 use Rattle.printing.specs.Printing.{sequel, onward, linesIn}
 use Rattle.printing.specs.declared.Filled.{Filled}

@@ -3,9 +3,10 @@ use mathlib.Core.Path.{sym, ap, _∙_}
 use lib.ListN.{length}
 use borrow.Author.Needs.{needs}
 use Rattle.promise.specs.Campaign.{request}
+use Rattle.line_format.specs.Calls.{over}
 use Rattle.line_writer.specs.Answers.{writtenTold}
 use Rattle.campaign_state.specs.State.{answerText, width}
-use Rattle.campaign.specs.Calls.{toldOf, after, over, lineIs}
+use Rattle.campaign.specs.Calls.{toldOf, after, lineIs}
 use Rattle.campaign.proofs.Moments.{refusal-leaves}
 use Rattle.campaign.proofs.Written.{was-written, not-written}
 use Rattle.campaign.proofs.Tells.{any-room, retold}

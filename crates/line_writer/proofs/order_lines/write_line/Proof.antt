@@ -1,14 +1,15 @@
--- `line_writer::order_lines::write_line` refuses an order out of shape, then a line that there is no room for, and else puts the line at the front.
+-- `line_writer::order_lines::write_line` refuses an order out of shape, and else writes the text of the line.
 use mathlib.Core.Path.{_≡_, sym, _∙_}
 use mathlib.Core.Bool.{true}
 use native.Mathlib.Omega.{arith}
+use lib.Seq.{length-take-le}
 use borrow.Author.Needs.{needs}
 use Rattle.listing.specs.Limits.{mostPorts}
 use Rattle.line_format.specs.Format.{lineText}
 use Rattle.words.specs.Shape.{lineFits}
 use Rattle.line_format.proofs.Written.{write-unfit}
 use Rattle.line_writer.specs.Answers.{Spells}
-use Rattle.line_writer.proofs.Spelling.{spells-within, spells-line, spelled-room, spelled-front}
+use Rattle.line_writer.proofs.Spelling.{spells-within, spells-line, spelled-told}
 use Rattle.line_writer.proofs.order_lines.write_line.Statement.{statement}
 use Rattle.line_writer.proofs.order_lines.write_line.Tie as tie
 
@@ -25,30 +26,28 @@ spelt c =
 and-part-requires : tie.Need-and-part-requires
 and-part-requires c κs = omega (arith, c .before .line-text .ensures .1)
 
+array-share-prefix-bytes : tie.Need-array-share-prefix-bytes
+array-share-prefix-bytes c = let p = c .before in spells-within (p .and-part .result) _ (spelt p)
+
+slice-aggregate-write-text : tie.Need-slice-aggregate-write-text
+slice-aggregate-write-text c =
+    let p = c .before .before in
+    sym (length-take-le (p .and-part .result .len) (p .and-part .result .bytes) (spells-within (p .and-part .result) _ (spelt p)))
+
 returns : tie.Need-returns
 returns c =
-    let p = c .before .before in
+    let w = c .before .before in
+    let p = w .before .before .before .before in
     let f = p .before .before .before in
     let a = f .before .before .before .args in
-    rw (c .nowhere .ensures) (spelled-room mostPorts (a .line) (a .buf .now) (p .and-part .result) (fit f) (spelt p) (c .before .if2 .taken))
-
-put-requires : tie.Need-put-requires
-put-requires c κs = let p = c .before .before in (spells-within (p .and-part .result) _ (spelt p), c .before .if2 .left)
+    let told = spelled-told mostPorts (a .line) (a .buf .now) (p .and-part .result) (fit f) (spelt p) in
+    (w .write-text .ensures .0 ∙ told .0, w .write-text .ensures .1 ∙ told .1)
 
 returns-2 : tie.Need-returns-2
 returns-2 c =
-    let u = c .before .before in
-    let p = u .before .before .before in
-    let f = p .before .before .before in
-    let a = f .before .before .before .args in
-    let told = spelled-front mostPorts (a .line) (a .buf .now) (p .and-part .result) (fit f) (spelt p) (u .before .before .if2 .left) in
-    (told .0, u .put .ensures ∙ told .1)
-
-returns-3 : tie.Need-returns-3
-returns-3 c =
     let f = c .before .before in
     let a = f .before .before .args in
-    rw (c .nowhere2 .ensures) (write-unfit mostPorts (a .line) (a .buf .now) (sym (f .fits2 .ensures) ∙ c .before .if1 .left))
+    rw (c .nowhere .ensures) (write-unfit mostPorts (a .line) (a .buf .now) (sym (f .fits2 .ensures) ∙ c .before .if1 .left))
 
 pub write-line-spec : {M : Type 1} → statement M
 write-line-spec =
@@ -58,10 +57,10 @@ write-line-spec =
     (λ c κs. search needs)
     (λ c. search needs)
     and-part-requires
+    array-share-prefix-bytes
+    slice-aggregate-write-text
     (λ c κs. search needs)
-    returns
-    put-requires
     (λ c. search needs)
-    returns-2
+    returns
     (λ c κs. search needs)
-    returns-3)
+    returns-2)
