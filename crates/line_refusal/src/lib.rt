@@ -1,4 +1,6 @@
-// A refusal as text: `refused=` with its number and `at=` with its place, each on a line of its own.
+// A refusal as text: `refused=` with its number and `at=` with its place, each on a line of its own; and in words.
+pub mod wording;
+
 use line_writer::order_lines::Spelled;
 use line_writer::order_lines::and_both;
 use line_writer::order_lines::and_part;
