@@ -23,9 +23,10 @@ use Rattle.panel.proofs.Accepted.{panel-refused}
 use Rattle.panel.proofs.Refusals.{refusals}
 use Rattle.text_keys.specs.Parts.{newline, cut, afterKey}
 use Rattle.line_format.specs.Format.{Kind, swapping, turning, marking, ending, key, commas, lineOf, lineText}
-use Rattle.line_format.specs.Calls.{roomOf, writeOf, writeBytes}
+use Rattle.line_format.specs.Calls.{roomOf, roomBytes, writeOf, writeBytes}
 use Rattle.words.specs.Shape.{lineFits}
 use Rattle.line_format.specs.Reading.{fitting, numbersIn, numbersTold, keyed, lineIn, readOf}
+use Rattle.line_refusal.specs.Words.{wordsOf, refusalWordsOf, refusalWordsBytes}
 use Rattle.promise.specs.Campaign.{Setting, refusal, Call, request, reportTo, reportOf, isError, todo, next, offer, standsFor, answer}
 use Rattle.promise.specs.Campaign as model
 use Rattle.campaign_state.specs.State.{settingOf, momentOf}
@@ -40,7 +41,7 @@ use Rattle.printing.specs.declared.Rehearsal.{Rehearsal}
 use Rattle.campaign_onward.specs.Calls.{whereOf, statusOf, panelIn, fitTold, resumeOf, resumedOf, goesOn}
 use Rattle.printing.proofs.Refused.{refused-first, rehearsal-stays, bytes-stay as line-bytes-stay}
 use Rattle.plan_rules.specs.Planned.{device}
-use Rattle.demands.specs.One.{OneOf, Refuses, RefusesAs, DemandOne}
+use Rattle.demands.specs.One.{OneOf, Refuses, Keeps, RefusesAs, DemandOne}
 use Rattle.demands.proofs.PlanNumbers.{plan-numbers}
 use Rattle.demands.proofs.Numbers.{from-accepted, from-refused, from-then, from-need, from-cond, from-sized, answer-cond, answer-refusal, kept}
 
@@ -111,12 +112,25 @@ read-numbers t place =
     from-then ofLine _ _ (from-need ofLine 11 nowhere (cut newline (drop place t)) (inl refl))
     (λ p. from-then ofLine _ _ (line-numbers (p .front)) (λ l. from-accepted ofLine _))
 
+-- a text that has to fit
+room-numbers : (ns : List ℕ) → OneOf ns 2 → (t buf : List ℕ) → Refuses ns (roomOf t buf)
+unfolding roomOf
+room-numbers ns h t buf = from-cond ns (leb (length t) (length buf)) _ _ (from-accepted ns _) (from-refused ns 2 nowhere h)
+
 write-numbers : (l : Line) (buf : List ℕ) → Refuses (17 ∷ 2 ∷ []) (writeOf mostPorts l buf)
-unfolding writeOf roomOf
+unfolding writeOf
 write-numbers l buf =
-    from-then (17 ∷ 2 ∷ []) _ _ (fitting-numbers (17 ∷ 2 ∷ []) l (inl refl))
-    (λ k. from-cond (17 ∷ 2 ∷ []) (leb (length (lineText k)) (length buf)) _ _ (from-accepted (17 ∷ 2 ∷ []) _)
-    (from-refused (17 ∷ 2 ∷ []) 2 nowhere (inr (inl refl))))
+    from-then (17 ∷ 2 ∷ []) _ _ (fitting-numbers (17 ∷ 2 ∷ []) l (inl refl)) (λ k. room-numbers (17 ∷ 2 ∷ []) (inr (inl refl)) (lineText k) buf)
+
+-- ---- a refusal's words
+
+refusal-words-numbers : (number : ℕ) (buf : List ℕ) → Refuses (2 ∷ []) (refusalWordsOf number buf)
+unfolding refusalWordsOf
+refusal-words-numbers number buf = room-numbers (2 ∷ []) (inl refl) (wordsOf number) buf
+
+refusal-words-kept : (number : ℕ) (buf : List ℕ) → Keeps (refusalWordsOf number buf) (refusalWordsBytes number buf) buf
+unfolding refusalWordsOf refusalWordsBytes roomBytes
+refusal-words-kept number buf = kept (roomOf (wordsOf number) buf) _ buf
 
 -- ---- states and reports
 
@@ -231,6 +245,8 @@ demand-one = record {
   readLine = read-numbers;
   writeLine = write-numbers;
   writeKeeps = λ l buf. kept (writeOf mostPorts l buf) _ buf;
+  refusalWords = refusal-words-numbers;
+  refusalWordsKeeps = refusal-words-kept;
   asked = request-numbers;
   reported = report-numbers none;
   reportedMark = λ m. report-numbers (some m);

@@ -18,6 +18,8 @@ use Rattle.line_writer.proofs.Only.{only-write-line}
 use Rattle.line_writer.proofs.Contracts.{write-line-says}
 use Rattle.line_reader.proofs.Only.{only-read-line}
 use Rattle.line_reader.proofs.Contracts.{read-line-says}
+use Rattle.line_refusal.proofs.Only.{only-refusal-words}
+use Rattle.line_refusal.proofs.Contracts.{refusal-words-says}
 use Rattle.plans.proofs.Only.{only-read-plan}
 use Rattle.plans.proofs.Contracts.{read-plan-says}
 use Rattle.campaign.proofs.Only.{only-request, only-request-bytes, only-report, only-begin}
@@ -27,6 +29,7 @@ use Rattle.campaign_onward.proofs.Contracts.{status-says, resume-says}
 use Rattle.printing.proofs.Only.{only-rehearse, only-fill}
 use Rattle.printing.proofs.Contracts.{rehearse-says, fill-says}
 use Rattle.face_laws.proofs.Only as face
+use Rattle.face_words.proofs.Contracts as face-words
 use Rattle.face_patterns.proofs.Contracts as face-patterns
 use Rattle.face_panel.proofs.Contracts as face-panel
 use Rattle.face_lines.proofs.Contracts as face-lines
@@ -63,6 +66,7 @@ each-call-one = record {
   hasKey = one-by has-key-says (λ κs a r s e f. only-has-key _ _ r s);
   writeLine = one-by write-line-says (λ κs a r s e f h k. both (only-write-line _ _ r s _ _ (h .0) (h .1) (k .0) (k .1)));
   readLine = one-by read-line-says (λ κs a r s e f. only-read-line _ _ r s);
+  refusalWords = one-by refusal-words-says (λ κs (number, (buf, _)) r s e f h k. both (only-refusal-words number (now buf) r s _ _ (h .0) (h .1) (k .0) (k .1)));
   readPlan = one-by read-plan-says (λ κs a r s e f. only-read-plan _ r s);
   begin = one-by begin-says (λ κs a r s e f. only-begin _ r s);
   request = one-by request-says (λ κs a r s e f h k. both (only-request _ _ _ r s (h .0) (k .0), only-request-bytes _ _ _ _ (h .1) (k .1)));
@@ -72,6 +76,8 @@ each-call-one = record {
   resume = one-by resume-says (λ κs (c, (panel, _)) r s e f. only-resume (c .state) (now panel) r s);
   rehearse = one-by rehearse-says (λ κs a r s e f. only-rehearse _ r s);
   fill = one-by fill-says (λ κs (p, (buf, _)) r s e f h k. both (only-fill p (now buf) r s _ _ (h .0) (h .1) (k .0) (k .1)));
+  faceVersion = one-by face-words.version-says (λ κs a r s e f. face.only-version _ _);
+  faceRefusalWords = one-by face-words.refusal-words-says (λ κs (number, (buf, _)) r s e f. face.only-refusal-words number (now buf) _ _);
   faceCheck = one-by face-patterns.check-says (λ κs a r s e f. face.only-check _ _ _ _);
   faceCheckPanel = one-by face-patterns.check-panel-says (λ κs a r s e f. face.only-check _ _ _ _);
   faceCount = one-by face-patterns.count-says (λ κs a r s e f. face.only-count _ _ _);

@@ -25,6 +25,7 @@ use Rattle.text_keys.proofs.find.Reads as find
 use Rattle.text_keys.proofs.has_key.Reads as has-key
 use Rattle.line_writer.proofs.order_lines.write_line.Reads as write-line
 use Rattle.line_reader.proofs.order_lines.read_line.Reads as read-line
+use Rattle.line_refusal.proofs.wording.refusal_words.Reads as refusal-words
 use Rattle.plans.proofs.reading.read_plan.Reads as read-plan
 use Rattle.campaign.proofs.Campaign.begin.Reads as begin
 use Rattle.campaign.proofs.Campaign.request.Reads as request
@@ -34,6 +35,8 @@ use Rattle.campaign_onward.proofs.status.Reads as status
 use Rattle.campaign_onward.proofs.resume.Reads as resume
 use Rattle.printing.proofs.rehearse.Reads as rehearse
 use Rattle.printing.proofs.fill.Reads as fill
+use Rattle.face_words.proofs.jidrofex_version.Reads as face-version
+use Rattle.face_words.proofs.jidrofex_refusal_words.Reads as face-refusal-words
 use Rattle.face_patterns.proofs.jidrofex_check.Reads as face-check
 use Rattle.face_patterns.proofs.jidrofex_check_panel.Reads as face-check-panel
 use Rattle.face_patterns.proofs.jidrofex_count.Reads as face-count
@@ -90,6 +93,8 @@ pub record EachCallOne : Type 0 where
   -- ---- order lines
   pub writeLine : OneWith write-line.Learnt (λ κs (_, (buf, _)). now buf)
   pub readLine : OneAnswer read-line.Learnt
+  -- ---- a refusal's words
+  pub refusalWords : OneWith refusal-words.Learnt (λ κs (_, (buf, _)). now buf)
   -- ---- plans
   pub readPlan : OneAnswer read-plan.Learnt
   -- ---- the campaign
@@ -103,6 +108,10 @@ pub record EachCallOne : Type 0 where
   pub rehearse : OneAnswer rehearse.Learnt
   pub fill : OneWith fill.Learnt (λ κs (_, (buf, _)). now buf)
   -- ---- the calls for C: the number, the words of the answer and each lent slice
+  -- ---- the library
+  pub faceVersion : One face-version.Learnt (λ κs r (answer, _). result r (now answer) [])
+  pub faceRefusalWords : One face-refusal-words.Learnt (λ κs r (_, (buf, (answer, _))). result r (now answer) (now buf ∷ []))
+  -- ---- patterns, the panel, order lines, the campaign and lines in bulk
   pub faceCheck : One face-check.Learnt (λ κs r (_, (answer, _)). result r (now answer) [])
   pub faceCheckPanel : One face-check-panel.Learnt (λ κs r (_, (answer, _)). result r (now answer) [])
   pub faceCount : One face-count.Learnt (λ κs r (_, (answer, _)). result r (now answer) [])

@@ -14,7 +14,8 @@ use Rattle.patterns.specs.Calls.{countOf, rankOf, unrankOf, unrankBytes, beside
 use Rattle.panel.specs.Calls.{portOf, jackOf, carryOf, carryBytes}
 use Rattle.line_format.specs.Calls.{writeOf, writeBytes}
 use Rattle.line_format.specs.Reading.{readOf}
-use Rattle.face_values.specs.Answers.{nothing, oneNumber}
+use Rattle.line_refusal.specs.Words.{refusalWordsOf, refusalWordsBytes}
+use Rattle.face_values.specs.Answers.{versionTold, nothing, oneNumber}
 use Rattle.face_values.specs.Lines.{moveWords, lineIn}
 use Rattle.face_values.specs.Only.{Only}
 use Rattle.face_laws.specs.Values.{lineAndPlace, orderAndBytes, bytesAndEnd, whereWords}
@@ -27,6 +28,14 @@ only values told left r s m n = λ i. record {
   words = (m .words ∙ sym (n .words)) i;
   left = (m .left ∙ sym (n .left)) i;
 }
+
+-- ---- the library
+
+pub only-version : Only oneNumber versionTold []
+only-version = only _ _ _
+
+pub only-refusal-words : (number : ℕ) (buf : List ℕ) → Only oneNumber (refusalWordsOf number buf) (refusalWordsBytes number buf ∷ [])
+only-refusal-words number buf = only _ _ _
 
 -- ---- patterns
 

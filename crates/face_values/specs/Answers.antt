@@ -23,12 +23,22 @@ abbrev pub wordsTold : {A : Type 0} → (A → List ℕ) → Told A → List ℕ
 wordsTold values (accepted a) = five (values a)
 wordsTold values (refused k s) = five (spotNumber s ∷ [])
 
+-- ---- the version
+
+-- JIDROFEX_VERSION
+abbrev pub version : ℕ
+version = 1
+
+-- 'Gives the version of the library. Never refused'
+abbrev pub versionTold : Told ℕ
+versionTold = accepted version
+
 -- ---- the values that an accepted call gives
 
 -- 'Gives nothing'
 abbrev pub nothing : {A : Type 0} → A → List ℕ
 nothing a = []
 
--- 'Gives the count', the rank, the port, the jack, how many bytes: one number
+-- 'Gives the count', the rank, the port, the jack, how many bytes, the version: one number
 abbrev pub oneNumber : ℕ → List ℕ
 oneNumber k = k ∷ []
