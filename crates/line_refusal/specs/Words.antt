@@ -2,7 +2,7 @@
 -- Assumes nothing.
 use Prim.Native.Nat.{ℕ}
 use Prim.Native.Char.{code}
-use Prim.Native.String.{String, [] as none, _∷_ as _then_}
+use Prim.Native.String.{String, [] as empty, _∷_ as _and_}
 use mathlib.Core.List.{List, [], _∷_}
 use lib.ListN.{getD}
 use Rattle.words.specs.Told.{Told}
@@ -10,10 +10,10 @@ use Rattle.line_format.specs.Calls.{roomOf, roomBytes}
 
 -- a quoted text as a list of bytes: a byte for each character, which is the character's code
 unfoldable pub quoted : String → List ℕ
-quoted none = []
-quoted (c then s) = code c ∷ quoted s
+quoted empty = []
+quoted (c and s) = code c ∷ quoted s
 
--- 0 and the refusals' numbers
+-- those of 0, and of the refusals from 1 to 17
 abbrev pub allWords : List String
 allWords =
     "accepted"
@@ -36,7 +36,7 @@ allWords =
     ∷ "jack or port off the panel, or order out of shape"
     ∷ []
 
--- any other number
+-- those of any other number
 abbrev pub noWords : String
 noWords = "no refusal has this number"
 
