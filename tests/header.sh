@@ -70,7 +70,7 @@ header_program() {
 
 header_programs() {
     header_uncalled=$(sed -n 's/^call uint8_t \(jidrofex_[a-z_]*\)(.*/\1/p' "$header_out/said" | while read -r call; do
-        grep -qF "$call(" tests/header/header.c || echo "$call"
+        cat tests/header/*.[ch] | grep -qF "$call(" || echo "$call"
     done)
     [ -z "$header_uncalled" ] || fail "header: the program does not call $(echo $header_uncalled)"
     header_program C90 cc -std=c90 -pedantic -O2 -Wall -Wextra -Werror -Iinclude -o "$header_out/program" tests/header/header.c "$header_archive"
