@@ -1,67 +1,155 @@
-/* A controller's loop in C: a plan becomes robot orders, and every mark's traffic is reported.
+/* A controller's loop in C, which power cuts do not make lie.
  *
- *     campaign [PLAN]     PLAN is a file; without it the plan below is run
+ *     campaign PLAN STATE PANEL
  *
- * Prints each order's line. A refused plan is said on standard error: the number of the refusal, and the line of the plan. */
+ * PLAN is a plan's file. STATE is the file that the campaign is kept in: without it a new campaign begins, else it goes
+ * on. PANEL is the file that plays the cords (bench.c). Kill it at any moment and start it again: it goes on.
+ *
+ * Prints the line of each order as it is handed out. The rule: the state that a call left is saved before anything is
+ * done about its answer, and before the next call. docs/USING.md says why. */
+#include "bench.h"
 #include "jidrofex.h"
+#include "keep.h"
 
 #include <inttypes.h>
 #include <stdio.h>
 #include <string.h>
 
-static const char built_in[] = "ports=4\nlegs=2\nstart=0\nrun=2\nstart=8\nrun=-1\n";
-
-/* The bench's part: the robot obeys the line, the tester runs its traffic. Here they only show it. */
-static void robot_obeys(const uint8_t *line, size_t bytes)
-{
-    fwrite(line, 1, bytes, stdout);
-}
-
-static uint8_t tester_runs(void)
-{
-    return JIDROFEX_RAN; /* or JIDROFEX_ERROR: the same mark comes again; or JIDROFEX_GAVE_UP: it stays open */
-}
-
+/* A call was refused: its number, its place, its words. */
 static int refused(const char *call, uint8_t number, const uint64_t *answer)
 {
-    fprintf(stderr, "%s: refused=%u at=%" PRIu64 "\n", call, (unsigned)number, answer[0]);
+    uint8_t words[JIDROFEX_WORDS_BYTES];
+    uint64_t taken[JIDROFEX_ANSWER_WORDS];
+
+    jidrofex_refusal_words(number, words, sizeof words, taken);
+    fprintf(stderr, "%s: refused=%u at=%" PRIu64 ": %.*s\n", call, (unsigned)number, answer[0], (int)taken[0],
+            (const char *)words);
     return 1;
+}
+
+/* The first state of the plan in the file. */
+static int begin(const char *name, uint64_t *state)
+{
+    uint8_t plan[JIDROFEX_PLAN_BYTES + 1], number; /* one byte more than any plan has: a longer text is refused */
+    uint64_t answer[JIDROFEX_ANSWER_WORDS];
+    size_t bytes;
+    FILE *file = fopen(name, "rb");
+
+    if (file == NULL) {
+        perror(name);
+        return 1;
+    }
+    bytes = fread(plan, 1, sizeof plan, file);
+    if (ferror(file)) {
+        perror(name);
+        fclose(file);
+        return 1;
+    }
+    fclose(file);
+    number = jidrofex_begin(plan, bytes, state, JIDROFEX_STATE_WORDS, answer);
+    return number != 0 ? refused("begin", number, answer) : 0;
+}
+
+/* Says to which panel a technician sets the cords. Every fit state takes it: the pattern of the mark that stands, else
+ * of the next, after the end of the last. */
+static void say_cords(const uint64_t *state)
+{
+    size_t ports = (size_t)state[JIDROFEX_STATE_PORTS];
+    uint8_t pattern[JIDROFEX_MOST_PORTS];
+    uint64_t answer[JIDROFEX_ANSWER_WORDS];
+
+    if (jidrofex_status(state, JIDROFEX_STATE_WORDS, answer) != 0 ||
+        jidrofex_unrank(answer[2], pattern, ports, answer) != 0)
+        return;
+    fprintf(stderr, "set the cords to");
+    for (size_t k = 0; k < ports; k++)
+        fprintf(stderr, " %u", (unsigned)pattern[k]);
+    fprintf(stderr, " and start again\n");
+}
+
+/* Takes the campaign up, a new one as well as a saved one: the panel is read back and put into the state. */
+static int take_up(const char *name, uint64_t *state)
+{
+    size_t ports = (size_t)state[JIDROFEX_STATE_PORTS];
+    uint8_t panel[JIDROFEX_MOST_PORTS], number;
+    uint64_t answer[JIDROFEX_ANSWER_WORDS];
+
+    if (bench_reads(panel) != 0)
+        return 1;
+    number = jidrofex_resume(state, JIDROFEX_STATE_WORDS, panel, ports, answer);
+    if (number != 0) {
+        refused("resume", number, answer);
+        say_cords(state);
+        return 1;
+    }
+    return keep_write(name, state) != 0;
+}
+
+/* Does what the state says until the end is shown. */
+static int go_on(const char *name, uint64_t *state)
+{
+    uint64_t status[JIDROFEX_ANSWER_WORDS], answer[JIDROFEX_ANSWER_WORDS];
+    uint8_t line[JIDROFEX_LINE_BYTES], kind, number;
+
+    for (;;) {
+        number = jidrofex_status(state, JIDROFEX_STATE_WORDS, status);
+        if (number != 0)
+            return refused("status", number, status);
+        if (status[3]) { /* a mark stands: its traffic is run, again if need be, and reported by the mark's number */
+            if (bench_runs(status[1], status[2], &kind) != 0)
+                return 1;
+            number = jidrofex_report_mark(state, JIDROFEX_STATE_WORDS, status[1], kind, answer);
+            if (number != 0)
+                return refused("report", number, answer);
+            if (keep_write(name, state) != 0)
+                return 1;
+        } else { /* none stands: the next order is asked for; only when that is saved it is shown and obeyed */
+            number = jidrofex_request(state, JIDROFEX_STATE_WORDS, line, sizeof line, answer);
+            if (number != 0)
+                return refused("request", number, answer);
+            if (keep_write(name, state) != 0)
+                return 1;
+            if (fwrite(line, 1, (size_t)answer[4], stdout) != answer[4] || fflush(stdout) != 0) {
+                perror("standard output");
+                return 1;
+            }
+            if (answer[0] == JIDROFEX_END)
+                return 0;
+            if (answer[0] != JIDROFEX_MARK && bench_obeys(answer) != 0)
+                return 1;
+        }
+    }
 }
 
 int main(int argc, char **argv)
 {
-    uint8_t plan[JIDROFEX_PLAN_BYTES + 1]; /* one byte more than any plan has, so that a longer text is refused */
-    size_t bytes = strlen(built_in);
-    uint64_t state[JIDROFEX_STATE_WORDS], answer[JIDROFEX_ANSWER_WORDS];
-    uint8_t line[JIDROFEX_LINE_BYTES], number;
+    uint64_t first[JIDROFEX_STATE_WORDS], state[JIDROFEX_STATE_WORDS], version[JIDROFEX_ANSWER_WORDS];
 
-    memcpy(plan, built_in, bytes);
-    if (argc > 1) {
-        FILE *file = fopen(argv[1], "rb");
-        if (file == NULL) {
-            perror(argv[1]);
+    if (argc != 4) {
+        fprintf(stderr, "usage: campaign PLAN STATE PANEL\n");
+        return 2;
+    }
+    jidrofex_version(version);
+    if (version[0] != JIDROFEX_VERSION) {
+        fprintf(stderr, "the library is of version %" PRIu64 ", the header of %d\n", version[0], JIDROFEX_VERSION);
+        return 1;
+    }
+    if (begin(argv[1], first) != 0)
+        return 1;
+    switch (keep_read(argv[2], state)) {
+    case KEEP_READ:
+        if (memcmp(state, first, JIDROFEX_STATE_PANEL * sizeof *state) != 0) { /* the words before the panel: the plan */
+            fprintf(stderr, "%s is the state of another plan\n", argv[2]);
             return 1;
         }
-        bytes = fread(plan, 1, sizeof plan, file);
-        fclose(file);
+        break;
+    case KEEP_NONE:
+        memcpy(state, first, sizeof state);
+        break;
+    default:
+        return 1;
     }
-    number = jidrofex_begin(plan, bytes, state, JIDROFEX_STATE_WORDS, answer);
-    if (number != 0)
-        return refused("begin", number, answer);
-
-    /* The state is all there is to keep: a controller that saves it after each call goes on where it stopped. */
-    for (;;) {
-        number = jidrofex_request(state, JIDROFEX_STATE_WORDS, line, sizeof line, answer);
-        if (number != 0)
-            return refused("request", number, answer);
-        robot_obeys(line, (size_t)answer[4]);
-        if (answer[0] == JIDROFEX_END)
-            break;
-        if (answer[0] == JIDROFEX_MARK) {
-            number = jidrofex_report(state, JIDROFEX_STATE_WORDS, tester_runs(), answer);
-            if (number != 0)
-                return refused("report", number, answer);
-        }
-    }
-    return fflush(stdout) == 0 && !ferror(stdout) ? 0 : 1;
+    if (bench_opens(argv[3], (size_t)state[JIDROFEX_STATE_PORTS]) != 0 || take_up(argv[2], state) != 0)
+        return 1;
+    return go_on(argv[2], state);
 }

@@ -1,82 +1,90 @@
-//! A controller's loop in Rust: a plan becomes robot orders, and every mark's traffic is reported.
+//! A controller's loop in Rust, which power cuts do not make lie.
 //!
-//!     campaign [PLAN]     PLAN is a file; without it the plan below is run
+//!     campaign PLAN STATE PANEL
 //!
-//! Prints each order's line. A refused plan is said on standard error: the number of the refusal, and the line of the plan.
+//! PLAN is a plan's file. STATE is the file that the campaign is kept in: without it a new campaign begins, else it goes
+//! on. PANEL is the file that plays the cords (bench.rs). Kill it at any moment and start it again: it goes on.
+//!
+//! Prints the line of each order as it is handed out. The rule: the state that a call left is saved before anything is
+//! done about its answer, and before the next call. docs/USING.md says why.
 
+mod bench;
+mod jidrofex;
+mod keep;
+
+use bench::Bench;
+use jidrofex::{State, END, MARK, STATE_PANEL, STATE_PORTS, VERSION};
 use std::io::{stdout, Write};
+use std::path::{Path, PathBuf};
 use std::process::ExitCode;
 
-// include/jidrofex.h has the words: what each call gives, and where each field of the state stands
-extern "C" {
-    fn jidrofex_begin(text: *const u8, bytes: usize, state: *mut u64, words: usize, answer: *mut u64) -> u8;
-    fn jidrofex_request(state: *mut u64, words: usize, buffer: *mut u8, bytes: usize, answer: *mut u64) -> u8;
-    fn jidrofex_report(state: *mut u64, words: usize, kind: u8, answer: *mut u64) -> u8;
+/// To which panel a technician sets the cords. Every fit state takes it: the pattern of the mark that stands, else of the
+/// next, after the end of the last.
+fn cords_to_set(state: &State) -> Result<String, String> {
+    let pattern = jidrofex::unrank(jidrofex::status(state)?.rank, state[STATE_PORTS] as usize)?;
+    let ports: Vec<String> = pattern.iter().map(u8::to_string).collect();
+    Ok(format!("set the cords to {} and start again", ports.join(" ")))
 }
 
-const STATE_WORDS: usize = 61;
-const LINE_BYTES: usize = 45;
-const MARK: u64 = 3;
-const END: u64 = 4;
-const RAN: u8 = 0; // 1 is an error: the same mark comes again; 2 gives up: it stays open
-
-const BUILT_IN: &str = "ports=4\nlegs=2\nstart=0\nrun=2\nstart=8\nrun=-1\n";
-
-/// A campaign, and the answer of its last call.
-struct Campaign {
-    state: [u64; STATE_WORDS],
-    answer: [u64; 5],
+/// Takes the campaign up, a new one as well as a saved one: the panel is read back and put into the state.
+fn take_up(name: &Path, state: &mut State, bench: &Bench) -> Result<(), String> {
+    let panel = bench.reads()?;
+    if let Err(refusal) = jidrofex::resume(state, &panel) {
+        return Err(format!("{refusal}\n{}", cords_to_set(state)?));
+    }
+    keep::write(name, state)
 }
 
-impl Campaign {
-    /// The call's name with the number of a refusal and its place, or nothing where it was accepted.
-    fn accepted(&self, call: &str, number: u8) -> Result<(), String> {
-        match number {
-            0 => Ok(()),
-            _ => Err(format!("{call}: refused={number} at={}", self.answer[0])),
-        }
-    }
-
-    fn begin(plan: &[u8]) -> Result<Campaign, String> {
-        let mut new = Campaign { state: [0; STATE_WORDS], answer: [0; 5] };
-        let number = unsafe { jidrofex_begin(plan.as_ptr(), plan.len(), new.state.as_mut_ptr(), STATE_WORDS, new.answer.as_mut_ptr()) };
-        new.accepted("begin", number)?;
-        Ok(new)
-    }
-
-    /// The next line at the front of the buffer: its kind, and how many bytes it takes.
-    fn request(&mut self, line: &mut [u8]) -> Result<(u64, usize), String> {
-        let number = unsafe { jidrofex_request(self.state.as_mut_ptr(), STATE_WORDS, line.as_mut_ptr(), line.len(), self.answer.as_mut_ptr()) };
-        self.accepted("request", number)?;
-        Ok((self.answer[0], self.answer[4] as usize))
-    }
-
-    fn report(&mut self, kind: u8) -> Result<(), String> {
-        let number = unsafe { jidrofex_report(self.state.as_mut_ptr(), STATE_WORDS, kind, self.answer.as_mut_ptr()) };
-        self.accepted("report", number)
-    }
-}
-
-fn run() -> Result<(), String> {
-    let plan = match std::env::args_os().nth(1) {
-        Some(file) => std::fs::read(&file).map_err(|error| format!("{}: {error}", file.to_string_lossy()))?,
-        None => BUILT_IN.into(),
-    };
-    let mut campaign = Campaign::begin(&plan)?;
-    let mut line = [0; LINE_BYTES];
+/// Does what the state says until the end is shown.
+fn go_on(name: &Path, state: &mut State, bench: &Bench) -> Result<(), String> {
     loop {
-        let (kind, bytes) = campaign.request(&mut line)?;
-        stdout().write_all(&line[..bytes]).map_err(|error| error.to_string())?; // here the robot obeys
-        match kind {
-            END => return Ok(()),
-            MARK => campaign.report(RAN)?, // here the tester ran its traffic
-            _ => {}
+        let status = jidrofex::status(state)?;
+        if status.standing {
+            // its traffic is run, again if need be, and reported by the mark's number
+            let kind = bench.runs(status.mark, status.rank)?;
+            jidrofex::report_mark(state, status.mark, kind)?;
+            keep::write(name, state)?;
+        } else {
+            // the next order is asked for; only when that is saved it is shown and obeyed
+            let (order, line) = jidrofex::request(state)?;
+            keep::write(name, state)?;
+            let mut out = stdout();
+            out.write_all(&line).and_then(|()| out.flush()).map_err(|error| format!("standard output: {error}"))?;
+            match order[0] {
+                END => return Ok(()),
+                MARK => {}
+                _ => bench.obeys(&order)?,
+            }
         }
     }
+}
+
+fn run(plan: &Path, name: &Path, cords: PathBuf) -> Result<(), String> {
+    let version = jidrofex::version()?;
+    if version != VERSION {
+        return Err(format!("the library is of version {version}, this program of {VERSION}"));
+    }
+    let text = std::fs::read(plan).map_err(|error| format!("{}: {error}", plan.display()))?;
+    let first = jidrofex::begin(&text)?;
+    let mut state = match keep::read(name)? {
+        Some(saved) if saved[..STATE_PANEL] != first[..STATE_PANEL] => {
+            return Err(format!("{} is the state of another plan", name.display()));
+        }
+        Some(saved) => saved,
+        None => first,
+    };
+    let bench = Bench { cords, ports: state[STATE_PORTS] as usize };
+    take_up(name, &mut state, &bench)?;
+    go_on(name, &mut state, &bench)
 }
 
 fn main() -> ExitCode {
-    match run() {
+    let names: Vec<PathBuf> = std::env::args_os().skip(1).map(PathBuf::from).collect();
+    let [plan, name, cords] = &names[..] else {
+        eprintln!("usage: campaign PLAN STATE PANEL");
+        return ExitCode::from(2);
+    };
+    match run(plan, name, cords.clone()) {
         Ok(()) => ExitCode::SUCCESS,
         Err(reason) => {
             eprintln!("{reason}");
