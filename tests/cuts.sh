@@ -59,8 +59,15 @@ cuts_desk() {
 # cuts_run PROGRAM: the program on the desk to its end; what it prints comes after what is there
 cuts_run() { (cd "$cuts_out/desk" && "../campaign_$1" plan state panel >>../printed 2>../said); }
 
-# cuts_stop PROGRAM TIMES: the same, killed before the state is renamed for the TIMES-th time
-cuts_stop() { (STOP_AT=$2 STOP_NAME=state LD_PRELOAD="$PWD/$cuts_out/stop.so" && export STOP_AT STOP_NAME LD_PRELOAD && cuts_run "$1") 2>/dev/null; }
+# cuts_with PROGRAM SETTINGS..: the same, with tests/cuts/preload/stop.c loaded and told SETTINGS
+cuts_with() {
+    cuts_program=$1
+    shift
+    (export "LD_PRELOAD=$PWD/$cuts_out/stop.so" "$@" && cuts_run "$cuts_program") 2>/dev/null
+}
+
+# cuts_stop PROGRAM SAVE: the same, killed before the state is renamed for the SAVE-th time
+cuts_stop() { cuts_with "$1" "STOP_BEFORE=$2" STOP_NAME=state; }
 
 # cuts_refused PROGRAM LABEL LINES: the program on the desk ends with 1, prints nothing, says these LINES, and writes nothing
 cuts_refused() {
@@ -79,11 +86,11 @@ cuts_refused() {
 
 # cuts_file PROGRAM LABEL LINE COMMAND..: the state's file put through the command is refused with LINE; then it is as it was
 cuts_file() {
-    cuts_program=$1 cuts_label=$2 cuts_line=$3
+    cuts_reader=$1 cuts_label=$2 cuts_line=$3
     shift 3
     cp "$cuts_out/desk/state" "$cuts_out/whole"
     "$@" <"$cuts_out/whole" >"$cuts_out/desk/state"
-    cuts_refused "$cuts_program" "$cuts_label" "$cuts_line"
+    cuts_refused "$cuts_reader" "$cuts_label" "$cuts_line"
     cp "$cuts_out/whole" "$cuts_out/desk/state"
 }
 
@@ -108,7 +115,7 @@ cuts_refuses() {
     cuts_file "$1" 'half a file' 'state is cut short' head -n 30
     cuts_file "$1" 'a file without its sum' 'state is cut short' sed '$d'
     cuts_file "$1" 'a file without its last byte' 'state is cut short' head -c -1
-    cuts_file "$1" 'a byte too many' 'state goes on after its end' sed '$s/$/\n /'
+    cuts_file "$1" 'a byte too many' 'state goes on after its end' sh -c 'cat - && printf " "'
     cuts_file "$1" 'a line too many' 'state goes on after its end' sed '$p'
     cuts_file "$1" 'a megabyte too many' 'state goes on after its end' sh -c 'cat - && head -c 1048576 /dev/zero'
     # word 56 of 0 to 60 is covered, 3 here, in line 58; a mark too many would be a lie
@@ -182,6 +189,51 @@ cuts_turns() {
     fi
 }
 
+# the operations on files that C and Rust make are the same, one by one: what was found of the one holds of the other
+cuts_alike() {
+    for cuts_now in c rust; do
+        cuts_desk
+        rm -f "$cuts_out/operations_$cuts_now"
+        cuts_with "$cuts_now" "STOP_LOG=$PWD/$cuts_out/operations_$cuts_now"
+    done
+    cuts_operations=$(wc -l <"$cuts_out/operations_c")
+    # 17 saves of the state and 5 orders carried out, each: create, write, sync, rename, and sync of the folder
+    if [ "$cuts_operations" -eq 110 ] && cmp -s "$cuts_out/operations_c" "$cuts_out/operations_rust"; then
+        pass "cuts: C and Rust make the same $cuts_operations operations on files, one by one"
+    else
+        diff "$cuts_out/operations_c" "$cuts_out/operations_rust" | head -n 5
+        fail "cuts: C and Rust do not make the same operations on files, or not 110 as 17 saves and 5 orders make"
+    fi
+}
+
+# cuts_each FIRST SECOND: before each operation on a file FIRST is killed, or the operation fails: it ends, and says so in one line where it can; SECOND takes
+# it up, and the campaign comes to its end with all 5 marks covered
+cuts_each() {
+    cuts_at=0
+    while cuts_at=$((cuts_at + 1)) && [ "$cuts_at" -le 110 ]; do
+        for cuts_how in BEFORE FAILS; do
+            cuts_desk
+            cuts_with "$1" "STOP_$cuts_how=$cuts_at"
+            cuts_status=$?
+            case $cuts_how,$cuts_status,$(wc -l <"$cuts_out/said") in
+                BEFORE,137,0 | FAILS,1,1) ;;
+                *)
+                    cat "$cuts_out/said"
+                    fail "cuts: $1: STOP_$cuts_how=$cuts_at: it ends with $cuts_status"
+                    return
+                    ;;
+            esac
+            : >"$cuts_out/printed"
+            if ! cuts_run "$2" || [ "$(tail -n 1 "$cuts_out/printed")" != end=5 ] || [ "$(sed -n 58p "$cuts_out/desk/state")" != 5 ]; then
+                cat "$cuts_out/printed" "$cuts_out/said"
+                fail "cuts: $1, STOP_$cuts_how=$cuts_at, then $2: the campaign does not come to its end"
+                return
+            fi
+        done
+    done
+    pass "cuts: $1 is killed before each of its 110 operations on files, and each of them fails: it ends, and $2 takes it up to the end"
+}
+
 mkdir -p "$cuts_out"
 # an archive that is older than a file of crates/ would be a test of what was there before
 if [ ! -f "$cuts_archive" ] || [ -n "$(find crates -newer "$cuts_archive" -type f | head -n 1)" ]; then
@@ -199,5 +251,8 @@ if [ -f "$cuts_archive" ]; then
         cuts_over c rust
         cuts_over rust c
         cuts_turns
+        cuts_alike
+        cuts_each c rust
+        cuts_each rust c
     fi
 fi
