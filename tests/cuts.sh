@@ -15,8 +15,8 @@ cuts_build() {
     return 1
 }
 
-# cuts_c ARGUMENTS..: the C compiler, with every warning an error
-cuts_c() { cc -std=c99 -pedantic -O2 -Wall -Wextra -Werror -Iinclude "$@"; }
+# cuts_c ARGUMENTS..: the C compiler, with every warning an error; its checked stand-ins for read and the like would go by the wraps
+cuts_c() { cc -std=c99 -pedantic -O2 -U_FORTIFY_SOURCE -Wall -Wextra -Werror -Iinclude "$@"; }
 
 # ---- every cut, on a disk and a bench of the test
 

@@ -138,7 +138,8 @@ int main(int argc, char **argv)
         return 1;
     switch (keep_read(argv[2], state)) {
     case KEEP_READ:
-        if (memcmp(state, first, JIDROFEX_STATE_PANEL * sizeof *state) != 0) { /* the words before the panel: the plan */
+        /* the words before the panel are the plan's */
+        if (memcmp(state, first, JIDROFEX_STATE_PANEL * sizeof *state) != 0) {
             fprintf(stderr, "%s is the state of another plan\n", argv[2]);
             return 1;
         }

@@ -15,11 +15,15 @@ pub struct Bench {
 }
 
 impl Bench {
+    fn home(&self) -> Vec<u8> {
+        (1..=self.ports).map(|jack| (jack % self.ports + 1) as u8).collect()
+    }
+
     /// Reads the panel back from the cords themselves: the port at each jack, 0 where no cord is in.
     pub fn reads(&self) -> Result<Vec<u8>, String> {
         let text = match fs::read_to_string(&self.cords) {
             Ok(text) => text,
-            Err(error) if error.kind() == ErrorKind::NotFound => return Ok((0..self.ports).map(|k| ((k + 1) % self.ports + 1) as u8).collect()),
+            Err(error) if error.kind() == ErrorKind::NotFound => return Ok(self.home()),
             Err(error) => return Err(format!("{}: {error}", self.cords.display())),
         };
         let ports: Result<Vec<u8>, _> = text.split_whitespace().take(self.ports).map(str::parse).collect();

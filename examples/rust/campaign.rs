@@ -2,8 +2,8 @@
 //!
 //!     campaign PLAN STATE PANEL
 //!
-//! PLAN is a plan's file. STATE is the file that the campaign is kept in: without it a new campaign begins, else it goes
-//! on. PANEL is the file that plays the cords (bench.rs). Kill it at any moment and start it again: it goes on.
+//! PLAN is a plan's file. STATE is the file that the campaign is kept in: without it a new campaign begins, else it
+//! goes on. PANEL is the file that plays the cords (bench.rs). Kill it at any moment and start it again: it goes on.
 //!
 //! Prints the line of each order as it is handed out. The rule: the state that a call left is saved before anything is
 //! done about its answer, and before the next call. docs/USING.md says why.
@@ -18,8 +18,8 @@ use std::io::{stdout, Write};
 use std::path::{Path, PathBuf};
 use std::process::ExitCode;
 
-/// To which panel a technician sets the cords. Every fit state takes it: the pattern of the mark that stands, else of the
-/// next, after the end of the last.
+/// To which panel a technician sets the cords. Every fit state takes it: the pattern of the mark that stands, else of
+/// the next, after the end of the last.
 fn cords_to_set(state: &State) -> Result<String, String> {
     let pattern = jidrofex::unrank(jidrofex::status(state)?.rank, state[STATE_PORTS] as usize)?;
     let ports: Vec<String> = pattern.iter().map(u8::to_string).collect();

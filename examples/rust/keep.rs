@@ -22,7 +22,10 @@ fn text_of(state: &State) -> String {
     for word in state {
         text += &format!("{word}\n");
     }
-    let sum = text.bytes().fold(14695981039346656037, |sum: u64, byte| (sum ^ u64::from(byte)).wrapping_mul(1099511628211));
+    let mut sum: u64 = 14695981039346656037;
+    for byte in text.bytes() {
+        sum = (sum ^ u64::from(byte)).wrapping_mul(1099511628211);
+    }
     text + &format!("sum {sum:016x}\n")
 }
 
@@ -67,8 +70,8 @@ pub fn read(name: &Path) -> Result<Option<State>, String> {
     }
 }
 
-/// Saves the state. Where this comes back well it is on the disk; else the file is a whole state, the old one or the new
-/// one: go no further, start again.
+/// Saves the state. Where this comes back well it is on the disk; else the file is a whole state, the old one or the
+/// new one: go no further, start again.
 pub fn write(name: &Path, state: &State) -> Result<(), String> {
     text(name, &text_of(state))
 }

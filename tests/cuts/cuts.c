@@ -204,7 +204,8 @@ static void after_end(const struct world *from, int status)
         settle(&left);
         meet(&left);
     } else if (status != 0 || !text_is_state(piece->text, piece->bytes, words) || words[JIDROFEX_STATE_ENDED] != 1 ||
-               words[JIDROFEX_STATE_COVERED] + words[JIDROFEX_STATE_OPEN] != plan_marks()) {
+               words[JIDROFEX_STATE_COVERED] + words[JIDROFEX_STATE_OPEN] != plan_marks() ||
+               (plan->answers[0] == NULL && words[JIDROFEX_STATE_OPEN] != 0)) {
         figures.stuck++;
     } else {
         figures.ended++;
@@ -272,7 +273,7 @@ static void explore(void)
     for (size_t k = 0; k < listed && (is_sound() || !is_right()); k++) {
         status = life(list[k], 0);
         after_end(list[k], status);
-        if (k > 0 && !is_right()) /* a wrong way is found out by one cut; in a right one any number must do no harm */
+        if (k > 0 && !is_right()) /* a wrong way is found out by one cut; in a right one any number does no harm */
             continue;
         figures.cuts += world->point;
         for (size_t at = 0; at < lived->count; at++)
@@ -293,9 +294,8 @@ static int judge(void)
     case READ_BACK:
         printf("way with the read-back: %d plans, %lu cut points, %lu lives: %lu false covered\n", PLANS, f->cuts, f->lives,
                f->false_covered);
-        printf("way with the read-back: %lu moments in which a cut leaves the bench, no two the same; from each of them the "
-               "run ends with all marks closed but %lu, %lu of them after a technician set the cords\n", f->moments, f->stuck,
-               f->restored);
+        printf("way with the read-back: %lu moments in which a cut leaves the bench, no two the same: runs from them that do "
+               "not end with all marks closed: %lu; a technician sets the cords: %lu\n", f->moments, f->stuck, f->restored);
         printf("way with the read-back: %lu files that a cut leaves, of these not one whole state, the old or the new: %lu; "
                "calls made or cords moved before the state was saved: %lu\n", f->files, f->torn, f->early);
         return is_sound() && f->ended > 0 && f->restored > 0 && f->ended + f->restored == f->moments;

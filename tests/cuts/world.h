@@ -8,7 +8,6 @@
 
 enum {
     MOST_MARKS = 16,
-    MOST_ANSWERS = 4,
     FILE_BYTES = 512,
     PIECES = 4,
     CUT = 77 /* the status of a process that was ended by a cut */
@@ -26,7 +25,8 @@ enum way {
     WAYS
 };
 
-/* A plan, with what the tester answers for each mark in turn; the last answer stays. "" is: every mark runs. */
+/* A plan, with what the tester answers for each mark, time after time: 0 ran, 1 error, 2 gave up; the last answer stays.
+ * A mark without answers always runs. */
 struct plan {
     const char *name;
     unsigned ports, legs;
