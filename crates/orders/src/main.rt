@@ -1,16 +1,23 @@
 // The order printer: judges the first 1,024 bytes of standard input as a plan, takes every mark as run and prints every order; for a refusal only its number
-// and its place. Where something cannot be read or written it stops, and says so in one line on standard error.
-use line_refusal::refusal_text;
+// and its place. It tells the command how many marks are to come and, buffer by buffer, how many have gone by.
+use campaign::Campaign;
+use campaign_onward::Where;
+use campaign_onward::status;
+use console::printed;
+use console::read_input;
+use console::refused;
+use console::tell_number;
+use console::unreadable;
+use console::written;
 use printing::Filled;
 use printing::Rehearsal;
 use printing::fill;
+use printing::rehearsals::state_of;
 use printing::rehearse;
 use words::Outcome;
-use words::Refusal;
 ghost use mathlib.Core.Path.{_≡_};
 ghost use mathlib.Core.Bool.{true};
 ghost use Prim.Native.Nat.{_<_};
-ghost use Rattle.io.specs.Counts.{Counts};
 ghost use Rattle.printing.specs.Rehearsals.{stateOf};
 ghost use Rattle.printing.specs.Progress.{toGo};
 ghost use Rattle.printing.proofs.StandsFor.{Rehearsing};
@@ -24,13 +31,32 @@ struct Went {
     more: bool,
 }
 
-// Bytes written to standard output; where they cannot be, that is said.
-fn written(bytes: &[u8]) -> bool {
-    if io::write_all(1, bytes) {
-        return true;
+// Bytes written to standard output.
+fn put(bytes: &[u8]) -> bool {
+    written(b"orders", bytes)
+}
+
+// The last of them, and with them all is printed.
+fn put_last(bytes: &[u8]) {
+    if put(bytes) {
+        printed();
     }
-    io::write_all(2, b"orders: the output could not be written\n");
-    false
+}
+
+// How many marks are to come.
+fn tell_marks(r: Rehearsal) {
+    match status(Campaign { state: state_of(r) }) {
+        Where::At(w) => tell_number(b"marks=", w.marks),
+        Where::Refused(_) => (),
+    }
+}
+
+// How many marks have gone by: the number of the next one.
+fn tell_done(r: Rehearsal) {
+    match status(Campaign { state: state_of(r) }) {
+        Where::At(w) => tell_number(b"done=", w.number),
+        Where::Refused(_) => (),
+    }
 }
 
 // One buffer of lines.
@@ -40,19 +66,19 @@ fn print_some(r: Rehearsal) -> Went
     ensures less { λ w. ⌜ (w .more ≡ true → toGo (stateOf (w .rehearsal)) < toGo (stateOf r)) ⌝ }
 {
     let mut buf = io::large_buffer();
-    let printed = fill(r, &mut buf);
-    let next = printed.rehearsal;
-    let filled = printed.filled;
+    let part = fill(r, &mut buf);
+    let next = part.rehearsal;
+    let filled = part.filled;
     match filled {
         Filled::Lines(n) => {
-            let more = written(&buf[..n]);
+            let more = put(&buf[..n]);
             Went {
                 rehearsal: next,
                 more: more,
             }
         }
         Filled::Ended(n) => {
-            written(&buf[..n]);
+            put_last(&buf[..n]);
             Went {
                 rehearsal: next,
                 more: false,
@@ -76,15 +102,8 @@ fn print_all(r: Rehearsal)
         let next = went.rehearsal;
         rehearsal = next;
         more = went.more;
+        tell_done(next);
     }
-}
-
-// A refusal's two lines.
-fn print_refusal(f: Refusal) {
-    let text = refusal_text(f);
-    let bytes = text.bytes;
-    let n = text.len;
-    written(&bytes[..n]);
 }
 
 // A text judged, and its orders or its refusal printed.
@@ -93,33 +112,11 @@ fn print_plan(text: &[u8]) {
     let rehearsal = rehearsed.rehearsal;
     let judged = rehearsed.judged;
     match judged {
-        Outcome::Accepted => print_all(rehearsal),
-        Outcome::Refused(f) => print_refusal(f),
-    }
-}
-
-// What was read: so many bytes, unless reading failed.
-struct Input {
-    failed: bool,
-    len: usize,
-}
-
-// Standard input into the front of a buffer, until either is at its end.
-fn read_input(text: &mut [u8]) -> Input
-    ensures { λ r. ⌜ Counts (r .len) (now (text .exit)) ⌝ }
-{
-    let got = libc::read(0, text);
-    if got < 0 {
-        return Input {
-            failed: true,
-            len: 0,
-        };
-    }
-    let first = io::count(got, text);
-    let rest = io::read_full(0, &mut text[first..]);
-    Input {
-        failed: false,
-        len: first + rest,
+        Outcome::Accepted => {
+            tell_marks(rehearsal);
+            print_all(rehearsal);
+        }
+        Outcome::Refused(f) => refused(b"orders", f),
     }
 }
 
@@ -127,7 +124,7 @@ fn main() {
     let mut text = [0u8; JUDGED];
     let input = read_input(&mut text);
     if input.failed {
-        io::write_all(2, b"orders: the plan could not be read\n");
+        unreadable(b"orders", b"plan");
         return;
     }
     let n = input.len;

@@ -4,6 +4,7 @@ use mathlib.Core.Path.{_≡_, refl, sym}
 use mathlib.Core.Bool.{Bool, true, false, cond, true≢false}
 use Prim.Native.Nat.{ℕ, suc, _<_}
 use native.Mathlib.Omega.{arith}
+use borrow.Author.Needs.{needs}
 use Rattle.printing.specs.Rehearsals.{stateOf}
 use Rattle.printing.specs.Progress.{toGo}
 use Rattle.printing.proofs.StandsFor.{Rehearsing}
@@ -23,9 +24,17 @@ abbrev μ-loop : tie.MeasureT-loop
 μ-loop rehearsal₀ more₀ rehearsal more = cond more (suc (toGo (stateOf rehearsal))) 0
 
 loop-less : tie.Need-loop-less Inv-loop μ-loop
-loop-less c = went-less _ _ _ (c .before .before .loop-test .taken) _ (c .before .print-some .ensures .1)
+loop-less c = let g = c .before .before in went-less _ _ _ (g .before .loop-test .taken) _ (g .print-some .ensures .1)
 
 pub print-all-spec : {M : Type 1} → statement M
 print-all-spec =
     tie.close
-    (tie.spec Inv-loop μ-loop (λ c. c .pre) (λ c κs. c .before .loop .inv) loop-less (λ c. c .before .print-some .ensures .0) (λ c. tt))
+    (tie.spec
+    Inv-loop
+    μ-loop
+    (λ c. c .pre)
+    (λ c κs. c .before .loop .inv)
+    (λ c κs. search needs)
+    loop-less
+    (λ c. c .before .before .print-some .ensures .0)
+    (λ c. tt))

@@ -10,9 +10,9 @@ use Rattle.orders.proofs.print_plan.Tie as tie
 
 print-all-requires : tie.Need-print-all-requires
 print-all-requires c κs =
-    let b = c .before .before .before in
+    let b = c .before .before .before .before in
     subst Rehearsing (sym (ap stateOf (b .rehearse .ensures .rehearsal) ∙ begun-for _))
-    (rehearsing-begun _ (ap outcomeTold (sym (c .enum-told .given .1)) ∙ b .rehearse .ensures .judged))
+    (rehearsing-begun _ (ap outcomeTold (sym (c .before .enum-told .given .1)) ∙ b .rehearse .ensures .judged))
 
 pub print-plan-spec : {M : Type 1} → statement M
 print-plan-spec =
@@ -20,7 +20,9 @@ print-plan-spec =
     (tie.spec
     (λ c κs. search needs)
     (λ c. search needs)
+    (λ c κs. search needs)
     print-all-requires
+    (λ c. search needs)
     (λ c. search needs)
     (λ c κs. search needs)
     (λ c. search needs)

@@ -15,8 +15,8 @@ array-share-prefix-buf c =
     let f = c .before .before .before .before .before in
     bytes-within _ (f .before .before .large-buffer .result) _ (f .fill .result) _ _ (f .fill .ensures) (ap filledTold (c .before .filled .given .1))
 
-slice-aggregate-written : tie.Need-slice-aggregate-written
-slice-aggregate-written c =
+slice-aggregate-put : tie.Need-slice-aggregate-put
+slice-aggregate-put c =
     let f = c .before .before .before .before .before .before in
     sym (length-take-le _ _ (bytes-within _ (f .before .before .large-buffer .result) _ (f .fill .result) _ _ (f .fill .ensures) (ap filledTold (c .before .before .filled .given .1))))
 
@@ -25,8 +25,8 @@ array-share-prefix-buf-2 c =
     let f = c .before .before .before .before .before in
     bytes-within _ (f .before .before .large-buffer .result) _ (f .fill .result) _ _ (f .fill .ensures) (ap filledTold (c .before .filled2 .given .1))
 
-slice-aggregate-written-2 : tie.Need-slice-aggregate-written-2
-slice-aggregate-written-2 c =
+slice-aggregate-put-last : tie.Need-slice-aggregate-put-last
+slice-aggregate-put-last c =
     let f = c .before .before .before .before .before .before in
     sym (length-take-le _ _ (bytes-within _ (f .before .before .large-buffer .result) _ (f .fill .result) _ _ (f .fill .ensures) (ap filledTold (c .before .before .filled2 .given .1))))
 
@@ -56,11 +56,11 @@ print-some-spec =
     (λ c κs. search needs)
     (λ c. search needs)
     array-share-prefix-buf
-    slice-aggregate-written
+    slice-aggregate-put
     (λ c κs. search needs)
     (λ c. search needs)
     array-share-prefix-buf-2
-    slice-aggregate-written-2
+    slice-aggregate-put-last
     (λ c κs. search needs)
     (λ c. search needs)
     returns

@@ -1,4 +1,4 @@
--- `orders::read_input`: what was read first and what was read after it lie at the front of the buffer.
+-- `console::read_input`: what was read first and what was read after it lie at the front of the buffer.
 -- Assumes nothing.
 use mathlib.Core.Path.{sym}
 use mathlib.Core.List.{List, _++_}
@@ -9,8 +9,8 @@ use lib.Seq.{length-take-le}
 use borrow.Author.Needs.{needs}
 use borrow.Rule.Slice.PartMut.{putMid}
 use Rattle.io.specs.Counts.{Counts}
-use Rattle.orders.proofs.read_input.Statement.{statement}
-use Rattle.orders.proofs.read_input.Tie as tie
+use Rattle.console.proofs.read_input.Statement.{statement}
+use Rattle.console.proofs.read_input.Tie as tie
 
 -- r bytes of a part that starts after a bytes
 within : (a k r : ℕ) (xs ys : List ℕ) → a ≤ length xs → r ≤ length ys → Counts (a + r) (putMid a k xs ys)
