@@ -24,6 +24,8 @@ export LC_ALL
 { true <&0; } 2>/dev/null || exec 0>/dev/null
 { true >&1; } 2>/dev/null || exec 1</dev/null
 { true >&2; } 2>/dev/null || exec 2>/dev/null
+# the status where standard output cannot be written: a pipe has lost its reader, also where SIGPIPE is ignored
+if [ -p /dev/stdout ]; then unwritten=$pipe_gone; else unwritten=$unwritable; fi
 
 # ---- what is said
 
@@ -64,12 +66,12 @@ options() {
         taken=1
         case $1 in
             -h | --help)
-                usage 2>/dev/null || give_up "$unwritable" "$not_written"
+                usage 2>/dev/null || give_up "$unwritten" "$not_written"
                 exit "$printed_all"
                 ;;
             --version)
                 sed -n "s/.*JIDROFEX_VERSION = \([0-9]*\).*/$name (Jidrofex) version \1/p" "$root/include/jidrofex.h" 2>/dev/null ||
-                    give_up "$unwritable" "$not_written"
+                    give_up "$unwritten" "$not_written"
                 exit "$printed_all"
                 ;;
             --words) words=on ;;
@@ -244,7 +246,7 @@ percent() {
 announce() {
     [ "$words" = on ] || return 0
     room=''
-    [ ! -f /dev/stdout ] || room=$(df -Pk /dev/stdout 2>/dev/null | awk 'NR == 2 { print $4 * 1024 }')
+    [ ! -f /dev/stdout ] || room=$(df -Pk "/proc/$$/fd/1" 2>/dev/null | awk 'NR == 2 { printf "%.0f", $4 * 1024 }')
     awk -v name="$name" -v marks="$1" -v room="$room" -f "$root/commands/size.awk" </dev/null >&2
     shown=0
 }
@@ -282,9 +284,6 @@ run() {
     close_again
 }
 
-# the status where standard output could not be written: a pipe has lost its reader, also where SIGPIPE is ignored
-unwritten() { if [ -p /dev/stdout ]; then echo "$pipe_gone"; else echo "$unwritable"; fi; }
-
 # deliver FILE: to standard output, for a command that draws what its program printed
 deliver() {
     cat "$1" 2>/dev/null
@@ -292,7 +291,7 @@ deliver() {
     case $delivered in
         0) ;;
         "$pipe_gone") exit "$pipe_gone" ;;
-        *) give_up "$(unwritten)" "$not_written" ;;
+        *) give_up "$unwritten" "$not_written" ;;
     esac
 }
 
@@ -307,7 +306,7 @@ finish() {
             exit "$was_refused"
             ;;
         unreadable) exit "$unreadable" ;;
-        unwritable) exit "$(unwritten)" ;;
+        unwritable) exit "$unwritten" ;;
     esac
     [ "$ended" -eq 0 ] || exit "$ended"
     give_up "$not_built" 'the program ended and did not say how'

@@ -1,0 +1,109 @@
+# The commands as people and scripts run them: every row of tests/commands/table, which names the case, the command, the status and what is said; and the progress
+# of a long print. What the printer prints is in printer.sh, what is drawn in drawings.sh, how programs are built in building.sh.
+commands_out=$(mktemp -d)
+T=$commands_out
+
+# the files of the table
+commands_file() { printf "$2" >"$T/$1"; }
+commands_file run-too-long 'ports=6\nlegs=1\nstart=0\nrun=265\n'
+commands_file start-too-high 'ports=20\nlegs=1\nstart=895014631192902121\nrun=0\n'
+commands_file ports 'ports=21\nlegs=1\nstart=0\nrun=0\n'
+commands_file legs 'ports=4\nlegs=17\nstart=0\nrun=0\n'
+commands_file key 'ports=4\nlegs=1\nstart=0\nend=0\n'
+commands_file decimal 'ports=4\nlegs=1\nstart=two\nrun=0\n'
+commands_file returns 'ports=4\r\nlegs=1\r\nstart=0\r\nrun=0\r\n'
+commands_file order-mark '\357\273\277ports=4\nlegs=1\nstart=0\nrun=0\n'
+commands_file wide '\377\376p\000o\000r\000t\000s\000=\0004\000\n\000'
+commands_file blank-line 'ports=4\n\nlegs=1\nstart=0\nrun=0\n'
+commands_file blank-end 'ports=4\nlegs=1\nstart=0\nrun=0\n\n'
+commands_file comment '# all of it\nports=4\nlegs=1\nstart=0\nrun=0\n'
+commands_file blanks 'ports = 4\nlegs=1\nstart=0\nrun=0\n'
+commands_file zero 'ports=04\nlegs=1\nstart=0\nrun=0\n'
+commands_file plus 'ports=4\nlegs=1\nstart=0\nrun=+1\n'
+commands_file minus 'ports=4\nlegs=1\nstart=0\nrun=-0\n'
+commands_file no-newline 'ports=4\nlegs=1\nstart=0\nrun=0'
+commands_file missing 'ports=4\nlegs=2\nstart=0\nrun=0\n'
+commands_file circuit-20 'ports=20\nlegs=1\nstart=0\nrun=895014631192902120\n'
+{ printf 'ports=' && head -c 2000 /dev/zero | tr '\0' 1; } >"$T/long-line"
+cp plans/example "$T/-plan"
+cp plans/example "$T/a plan"
+ln -s "$root/bin/orders" "$T/link"
+
+# a reader that goes away after the first line; one that is gone before anything comes; SIGPIPE ignored; a print that is stopped; standard error a terminal
+commands_status() { "$@"; echo $? >"$T/status"; }
+reader_gone() { commands_status "$@" | head -n 1 >/dev/null; return "$(cat "$T/status")"; }
+no_reader() { commands_status "$@" | true; return "$(cat "$T/status")"; }
+ignoring() { (trap '' PIPE; "$@"); }
+stopped() { timeout 1 "$@" >"$T/printed"; }
+on_terminal() {
+    script -qec "$1" /dev/null </dev/null >"$T/screen"
+    terminal_status=$?
+    tr -d '\r' <"$T/screen"
+    return "$terminal_status"
+}
+
+commands_rows=0
+while IFS= read -r row; do
+    case $row in '' | '#'*) continue ;; esac
+    rest=$(printf '%s' "$row" | sed "s|\$T|$T|g")
+    want_status=${rest%% | *} rest=${rest#* | }
+    label=${rest%% | *} rest=${rest#* | }
+    command=${rest%% | *} rest=${rest#* | }
+    want_out=${rest%% | *} want_err=${rest#* | }
+    (eval "$command") </dev/null >"$T/out" 2>"$T/err"
+    status=$?
+    out=$(head -n 1 "$T/out")
+    err=$(awk '{ printf "%s%s", (NR > 1 ? " / " : ""), $0 }' "$T/err")
+    commands_rows=$((commands_rows + 1))
+    if [ "$status" = "$want_status" ] && [ "${out:--}" = "$want_out" ] && [ "${err:--}" = "$want_err" ]; then
+        pass "commands: $want_status: $label"
+    else
+        printf '  status %s, output %s\n  error  %s\n' "$status" "${out:--}" "${err:--}"
+        fail "commands: $label: not status $want_status, or something else is said"
+    fi
+done <tests/commands/table
+
+# every status that the commands' file names is met by a row for each command, but the one for what cannot be built (building.sh)
+for command in orders show; do
+    for status in 0 64 65 66 74 141; do
+        grep -qE "^$status \|.*bin/$command" tests/commands/table || fail "commands: no row of $command ends with $status"
+    done
+done
+
+# ---- the progress of a long print: a line for each tenth, rising, where standard error is no terminal; one line written over on a terminal; none beside the
+# orders themselves
+bin/orders --words plans/full-circuit-10 2>"$T/err" >"$T/out"
+if awk '
+    NR == 1 { ok = $0 == "orders: 1334961 marks to come, some 41 MB of orders"; next }
+    { ok = ok && $0 ~ /^orders: [0-9]+ %: [0-9]+ of 1334961 marks$/ && int($2 / 10) > tenth && $4 + 0 > done; tenth = int($2 / 10); done = $4 }
+    END { exit !(ok && NR >= 9 && NR <= 11 && int(done * 100 / 1334961) / 10 >= 9) }' "$T/err" && [ "$(wc -c <"$T/out")" -gt 40000000 ]; then
+    pass 'commands: a long print says how far it is, a line for each tenth'
+else
+    cat "$T/err"
+    fail 'commands: a long print does not say how far it is'
+fi
+# the number of marks that a progress line says have gone by is the one that the orders have come to there: told after a buffer, before the next
+script -qec "bin/orders plans/full-circuit-10 >$T/out" /dev/null </dev/null >"$T/screen"
+screen=$(tr '\r' '\n' <"$T/screen" | grep -c '^orders: [0-9]* %: ')
+script -qec "bin/orders plans/full-circuit-6" /dev/null </dev/null >"$T/beside"
+if [ "$screen" -ge 90 ] && [ "$(grep -c % "$T/beside")" -eq 0 ] && [ "$(grep -c '^mark=' "$T/beside")" -eq 265 ]; then
+    pass 'commands: on a terminal one line tells how far it is, and none where the orders go there too'
+else
+    fail 'commands: on a terminal the progress is not told, or stands among the orders'
+fi
+# what is printed is the same byte for byte with words, with --quiet and with neither
+bin/orders --words plans/overlap-6 2>/dev/null >"$T/with"
+bin/orders --quiet plans/overlap-6 >"$T/quiet"
+bin/orders plans/overlap-6 >"$T/out"
+if cmp "$T/with" "$T/out" && cmp "$T/quiet" "$T/out"; then
+    pass 'commands: words change no byte of what is printed'
+else
+    fail 'commands: words change what is printed'
+fi
+# nothing is left among temporary files
+mkdir "$T/room"
+TMPDIR=$T/room bin/orders plans/example >/dev/null
+TMPDIR=$T/room reader_gone bin/orders plans/full-circuit-10
+TMPDIR=$T/room bin/orders --bad 2>/dev/null
+if [ -z "$(ls "$T/room")" ]; then pass 'commands: no temporary file is left'; else fail 'commands: temporary files are left'; fi
+rm -rf "$commands_out"
