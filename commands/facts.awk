@@ -1,0 +1,133 @@
+# What the four drawers share: the facts, lines of key=value on standard input, read into variables; the move carried out on the panel; its words.
+# Ranks, counts and mark numbers are kept as text: they go beyond the whole numbers that awk holds.
+BEGIN { FS = "[=,]" }
+$1 == "ports" && NF == 2 { ports = $2 + 0; next }
+$1 == "count" && NF == 2 { count = $2 ""; next }
+$1 == "cord" && NF == 3 { cord[$2 + 0] = $3 + 0; cords++; next }
+$1 == "swap" && NF == 3 || $1 == "turn" && NF == 4 { order[++orders] = $0 ""; next }
+$1 == "mark" && NF == 3 { number[++marks] = $2 ""; rank[marks] = $3 ""; next }
+$1 == "legs" && NF == 2 { legs = $2 + 0; next }
+$1 == "start" && NF == 2 { start[++starts] = $2 ""; next }
+$1 == "run" && NF == 2 { run[++runs] = $2 ""; next }
+$1 == "end" && NF == 2 { ended = $2 ""; next }
+{ stray = $0 "" }
+
+# what is wrong with facts of any kind, or nothing
+function fault() {
+    if (stray != "") return "a line that is no fact: " stray
+    if (ports < 2 || ports > 20 || count == "") return "the facts are not complete"
+    return ""
+}
+
+# what is wrong with the facts of a panel
+function panel_fault(    j, met) {
+    if (fault() != "") return fault()
+    for (j = 1; j <= ports; j++) {
+        if (!(j in cord) || cord[j] < 1 || cord[j] > ports) return "jack " j " has no port"
+        if (met[cord[j]]++) return "port " cord[j] " has two jacks"
+    }
+    if (cords != ports || marks + (ended != "") != 2 || marks < 1) return "the facts are not complete"
+    return ""
+}
+
+# what is wrong with the facts of a plan: a leg has its start, its run, its first and its last mark
+function plan_fault() {
+    if (fault() != "") return fault()
+    if (legs < 1 || starts != legs || runs != legs || marks != 2 * legs || ended == "") return "the facts are not complete"
+    return ""
+}
+
+# a drawer draws nothing from facts with a fault
+function need(why) {
+    if (why == "") return
+    print "show: " why > "/dev/stderr"
+    exit 1
+}
+
+# after: the panel when all orders are carried out
+function carry(    i, j, part, held) {
+    for (j = 1; j <= ports; j++) after[j] = cord[j]
+    for (i = 1; i <= orders; i++) {
+        split(order[i], part, "[=,]")
+        held = after[part[2]]
+        after[part[2]] = after[part[3]]
+        if (part[1] == "swap") after[part[3]] = held
+        else { after[part[3]] = after[part[4]]; after[part[4]] = held }
+    }
+}
+
+# a panel as its pattern
+function pattern(panel,    j, text) {
+    for (j = 1; j <= ports; j++) text = text (j > 1 ? "," : "") panel[j]
+    return text
+}
+
+# 1 leg, 2 legs
+function many(number_text, name) { return number_text " " name (number_text == "1" ? "" : "s") }
+
+# the mark in words, as it was asked for: its number only where it is a mark of a plan
+function mark_words(i) { return (marked + 0 ? "mark " number[i] ", " : "") "rank " rank[i] }
+function headline() { return mark_words(1) " of " many(count, "pattern") " of " ports " ports" }
+
+# why nothing follows
+function end_words() {
+    if (marked + 0) return "this is the plan's last mark"
+    return count == "1" ? "it is the only pattern" : "nothing follows"
+}
+
+# an order in words
+function order_words(text,    part) {
+    split(text, part, "[=,]")
+    if (part[1] == "swap") return "swap jacks " part[2] " and " part[3]
+    return "turn jacks " part[2] ", " part[3] ", " part[4] ": " part[2] " gets what " part[3] " held, " part[3] " what " part[4] " held, " part[4] " what " part[2] " held"
+}
+
+# pieces: the orders one after another, as written for the robot or in words; how many
+function order_pieces(piece, worded,    i) {
+    for (i = 1; i <= orders; i++) piece[i] = (i > 1 ? "then " : "") (worded ? order_words(order[i]) : order[i]) (worded && i < orders ? "," : "")
+    return orders + 0
+}
+
+# pieces: each jack whose cord moves, with its next port; how many
+function change_pieces(piece,    j, n) {
+    for (j = 1; j <= ports; j++)
+        if (after[j] != cord[j]) {
+            if (n > 0) piece[n] = piece[n] ","
+            piece[++n] = "jack " j " gets port " after[j]
+        }
+    return n + 0
+}
+
+# n pieces filled into lines of at most width characters; how many lines
+function filled(piece, n, width, line,    i, k) {
+    for (i = 1; i <= n; i++)
+        if (k > 0 && length(line[k]) + 1 + length(piece[i]) <= width) line[k] = line[k] " " piece[i]
+        else line[++k] = piece[i]
+    return k + 0
+}
+
+# whether the one decimal is below the other
+function below(a, b) { return length(a) != length(b) ? length(a) < length(b) : (a "") < (b "") }
+
+# the decimal before a positive one
+function before(a,    i, tail) {
+    for (i = length(a); substr(a, i, 1) == "0"; i--) tail = tail "9"
+    a = substr(a, 1, i - 1) (substr(a, i, 1) - 1) tail
+    return length(a) > 1 && substr(a, 1, 1) == "0" ? substr(a, 2) : a
+}
+
+# a leg: how many steps it takes, whether it runs backward, whether it meets every pattern, whether it passes from one end of the list to the other
+function steps(leg) { return backward(leg) ? substr(run[leg], 2) : run[leg] }
+function backward(leg) { return substr(run[leg], 1, 1) == "-" }
+function circuit(leg) { return steps(leg) == before(count) }
+function passes_end(leg) { return backward(leg) ? below(rank[2 * leg - 1], rank[2 * leg]) : below(rank[2 * leg], rank[2 * leg - 1]) }
+
+# text for XML
+function escaped(text) {
+    gsub(/&/, "\\&amp;", text)
+    gsub(/</, "\\&lt;", text)
+    gsub(/>/, "\\&gt;", text)
+    gsub(/"/, "\\&quot;", text)
+    gsub(/[[:cntrl:]]/, " ", text)
+    return text
+}
