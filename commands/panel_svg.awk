@@ -25,7 +25,7 @@ function set_out() {
     left = 150
     right = 690
     top = 190
-    pitch = ports > 6 ? 560 / (ports - 1) : 112
+    pitch = ports > 6 ? 550 / (ports - 1) : 110
     radius = pitch * 0.42 < 21 ? pitch * 0.42 : 21
 }
 
@@ -37,9 +37,9 @@ function begin(    name) {
     print "<title>" escaped(name) "</title>"
     print "<rect width=\"840\" height=\"1188\" fill=\"white\"/>"
     y = 60
-    words(40, fitting(name, 26), "bold", "start", name)
+    words(40, fitting(name, 26, 0.69), "bold", "start", name)
     y = 92
-    if (title != "") words(40, fitting(headline(), 17), "normal", "start", headline())
+    if (title != "") words(40, fitting(headline(), 17, 0.6), "normal", "start", headline())
     y = title != "" ? 118 : 92
     words(40, 17, "normal", "start", "pattern " pattern(cord))
     y = top - radius - 14
@@ -47,8 +47,8 @@ function begin(    name) {
     words(right, 15, "normal", "middle", "ports")
 }
 
-# the size at which a text fits into the width of the page
-function fitting(text, size) { return length(text) * size * 0.66 > 760 ? 760 / (length(text) * 0.66) : size }
+# the size, of its letters' width to it, at which a text fits into the width of the page
+function fitting(text, size, part) { return length(text) * size * part > 760 ? 760 / (length(text) * part) : size }
 
 # a line of text at height y
 function words(x, size, weight, anchor, text) {
@@ -59,18 +59,18 @@ function draw_cord(j,    middle, path) {
     middle = (left + right) / 2
     path = sprintf("M %.2f %.2f C %.2f %.2f %.2f %.2f %.2f %.2f", left, height(j), middle, height(j), middle, height(cord[j]), right, height(cord[j]))
     printf "<path class=\"cord\" d=\"%s\" fill=\"none\" stroke=\"%s\" stroke-width=\"%s\" stroke-dasharray=\"%s\"/>\n", \
-        path, colour[j], after[j] != cord[j] ? "6" : "2.2", dash[(j - 1) % dashes + 1]
+        path, colour[j], after[j] != cord[j] ? "6" : "2.5", dash[(j - 1) % dashes + 1]
 }
 
 # the k-th circle of a column with its number, in the colour of its cord
 function ring(class, x, k, j) {
     printf "<circle class=\"%s\" cx=\"%.2f\" cy=\"%.2f\" r=\"%.2f\" fill=\"white\" stroke=\"%s\" stroke-width=\"%s\"/>\n", \
-        class, x, height(k), radius, colour[j], after[j] != cord[j] ? "4" : "2.2"
+        class, x, height(k), radius, colour[j], after[j] != cord[j] ? "4" : "2.5"
     printf "<text x=\"%.2f\" y=\"%.2f\" dy=\"0.36em\" font-size=\"%.2f\" font-weight=\"bold\" text-anchor=\"middle\">%d</text>\n", x, height(k), radius * 1.1, k
 }
 
 # the wiring: under each jack its port, and its port after the move
-function table(    j, wide, x) {
+function table(    j, wide) {
     wide = ports > 14 ? 650 / ports : 46
     words(40, 15, "bold", "start", "jack")
     for (j = 1; j <= ports; j++) words(140 + (j - 0.5) * wide, 15, "bold", "middle", j)
@@ -97,7 +97,7 @@ function move(    piece, n) {
     y += 25
     words(40, 15, "normal", "start", "pattern " pattern(after))
     y += 25
-    words(40, 15, "normal", "start", n == 0 ? "no cord moves" : "the heavy cords move:")
+    words(40, 15, "normal", "start", n == 0 ? "no cord moves" : "The heavy cords move:")
     paragraph(piece, n)
     y += 6
     n = order_pieces(piece, 1)
@@ -106,9 +106,9 @@ function move(    piece, n) {
 
 # n pieces in lines
 function paragraph(piece, n,    text, k, lines) {
-    lines = filled(piece, n, 88, text)
+    lines = filled(piece, n, 108, text)
     for (k = 1; k <= lines; k++) {
-        y += 20
-        words(40, 15, "normal", "start", text[k])
+        y += 19
+        words(40, 14, "normal", "start", text[k])
     }
 }

@@ -8,7 +8,7 @@ END {
     for (r = 2; r <= rows; r++) if (grid[r] !~ /^ /) text = text (jacks ? "," : "") followed(r)
     if (!broken) unused()
     if (jacks < 2 || ports_named() != jacks) broken = 1
-    print broken ? "broken" : text
+    print (broken ? "broken" : text)
 }
 
 function at(r, c) { return substr(grid[r], c, 1) }
