@@ -56,6 +56,9 @@ function carry(    i, j, part, held) {
     }
 }
 
+# whether the cord of jack j moves
+function moves(j) { return after[j] != cord[j] }
+
 # a panel as its pattern
 function pattern(panel,    j, text) {
     for (j = 1; j <= ports; j++) text = text (j > 1 ? "," : "") panel[j]
@@ -75,11 +78,13 @@ function end_words() {
     return count == "1" ? "it is the only pattern" : "nothing follows"
 }
 
-# an order in words
-function order_words(text,    part) {
+# an order in words; a turn is told in full where there are few orders
+function order_words(text,    part, turn) {
     split(text, part, "[=,]")
     if (part[1] == "swap") return "swap jacks " part[2] " and " part[3]
-    return "turn jacks " part[2] ", " part[3] ", " part[4] ": " part[2] " gets what " part[3] " held, " part[3] " what " part[4] " held, " part[4] " what " part[2] " held"
+    turn = "turn jacks " part[2] ", " part[3] ", " part[4]
+    if (orders > 2) return turn
+    return turn ": " part[2] " gets what " part[3] " held, " part[3] " what " part[4] " held, " part[4] " what " part[2] " held"
 }
 
 # pieces: the orders one after another, as written for the robot or in words; how many
@@ -91,7 +96,7 @@ function order_pieces(piece, worded,    i) {
 # pieces: each jack whose cord moves, with its next port; how many
 function change_pieces(piece,    j, n) {
     for (j = 1; j <= ports; j++)
-        if (after[j] != cord[j]) {
+        if (moves(j)) {
             if (n > 0) piece[n] = piece[n] ","
             piece[++n] = "jack " j " gets port " after[j]
         }

@@ -59,13 +59,13 @@ function draw_cord(j,    middle, path) {
     middle = (left + right) / 2
     path = sprintf("M %.2f %.2f C %.2f %.2f %.2f %.2f %.2f %.2f", left, height(j), middle, height(j), middle, height(cord[j]), right, height(cord[j]))
     printf "<path class=\"cord\" d=\"%s\" fill=\"none\" stroke=\"%s\" stroke-width=\"%s\" stroke-dasharray=\"%s\"/>\n", \
-        path, colour[j], after[j] != cord[j] ? "6" : "2.5", dash[(j - 1) % dashes + 1]
+        path, colour[j], (moves(j) ? "6" : "2.5"), dash[(j - 1) % dashes + 1]
 }
 
 # the k-th circle of a column with its number, in the colour of its cord
 function ring(class, x, k, j) {
     printf "<circle class=\"%s\" cx=\"%.2f\" cy=\"%.2f\" r=\"%.2f\" fill=\"white\" stroke=\"%s\" stroke-width=\"%s\"/>\n", \
-        class, x, height(k), radius, colour[j], after[j] != cord[j] ? "4" : "2.5"
+        class, x, height(k), radius, colour[j], (moves(j) ? "4" : "2.5")
     printf "<text x=\"%.2f\" y=\"%.2f\" dy=\"0.36em\" font-size=\"%.2f\" font-weight=\"bold\" text-anchor=\"middle\">%d</text>\n", x, height(k), radius * 1.1, k
 }
 
@@ -74,17 +74,17 @@ function table(    j, wide) {
     wide = ports > 14 ? 650 / ports : 46
     words(40, 15, "bold", "start", "jack")
     for (j = 1; j <= ports; j++) words(140 + (j - 0.5) * wide, 15, "bold", "middle", j)
-    line(140 + ports * wide)
+    rule(140 + ports * wide)
     y += 26
     words(40, 15, "normal", "start", "port")
     for (j = 1; j <= ports; j++) words(140 + (j - 0.5) * wide, 15, "normal", "middle", cord[j])
     if (ended != "") return
     y += 24
     words(40, 15, "normal", "start", "next port")
-    for (j = 1; j <= ports; j++) words(140 + (j - 0.5) * wide, 15, after[j] != cord[j] ? "bold" : "normal", "middle", after[j])
+    for (j = 1; j <= ports; j++) words(140 + (j - 0.5) * wide, 15, (moves(j) ? "bold" : "normal"), "middle", after[j])
 }
 
-function line(to) { printf "<path d=\"M 40 %.2f L %.2f %.2f\" stroke=\"black\" stroke-width=\"1\"/>\n", y + 7, to, y + 7 }
+function rule(to) { printf "<path d=\"M 40 %.2f L %.2f %.2f\" stroke=\"black\" stroke-width=\"1\"/>\n", y + 7, to, y + 7 }
 
 # the next move in words
 function move(    piece, n) {
