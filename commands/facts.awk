@@ -127,6 +127,31 @@ function backward(leg) { return substr(run[leg], 1, 1) == "-" }
 function circuit(leg) { return steps(leg) == before(count) }
 function passes_end(leg) { return backward(leg) ? below(rank[2 * leg - 1], rank[2 * leg]) : below(rank[2 * leg], rank[2 * leg - 1]) }
 
+# the plan in a line
+function plan_words() { return ports " ports, " many(count, "pattern") ", " many(legs, "leg") ", " many(ended, "mark") }
+
+# twenty colours, dark enough for print
+function palette(colour,    paler, k) {
+    split("#d7191c #0057b8 #1a7f37 #e66a00 #7b1fa2 #008b8b #7a4a1e #000000 #c2189b #6b6b00", colour, " ")
+    split("#2e86de #7f0000 #4c9a2a #1b2a6b #b07d00 #6e6e6e #e0457b #00594f #8e6bd8 #4f6f86", paler, " ")
+    for (k = 1; k <= 10; k++) colour[10 + k] = paler[k]
+}
+
+# a picture begins: a white A4 page, upright, 4 units to the millimetre
+function svg_begin(name) {
+    print "<svg xmlns=\"http://www.w3.org/2000/svg\" width=\"210mm\" height=\"297mm\" viewBox=\"0 0 840 1188\" font-family=\"sans-serif\">"
+    print "<title>" escaped(name) "</title>"
+    print "<rect width=\"840\" height=\"1188\" fill=\"white\"/>"
+}
+
+# a line of text in a picture
+function caption(x, y, size, weight, anchor, text) {
+    printf "<text x=\"%.2f\" y=\"%.2f\" font-size=\"%.2f\" font-weight=\"%s\" text-anchor=\"%s\">%s</text>\n", x, y, size, weight, anchor, escaped(text)
+}
+
+# the size at which a text fits into the width of the page, where a letter is that part of it wide
+function fitting(text, size, part) { return length(text) * size * part > 760 ? 760 / (length(text) * part) : size }
+
 # text for XML
 function escaped(text) {
     gsub(/&/, "\\&amp;", text)

@@ -16,11 +16,8 @@ END {
     print "</svg>"
 }
 
-# a colour for each cord, dark enough for print
 function set_out() {
-    split("#d7191c #0057b8 #1a7f37 #e66a00 #7b1fa2 #008b8b #7a4a1e #000000 #c2189b #6b6b00", colour, " ")
-    split("#2e86de #7f0000 #4c9a2a #1b2a6b #b07d00 #6e6e6e #e0457b #00594f #8e6bd8 #4f6f86", paler, " ")
-    for (j = 1; j <= 10; j++) colour[10 + j] = paler[j]
+    palette(colour)
     dashes = split("none|14 4|5 4|18 4 4 4|10 3 2 3 2 3", dash, "|")
     left = 150
     right = 690
@@ -33,26 +30,12 @@ function height(k) { return top + (k - 1) * pitch }
 
 function begin(    name) {
     name = title == "" ? headline() : title
-    print "<svg xmlns=\"http://www.w3.org/2000/svg\" width=\"210mm\" height=\"297mm\" viewBox=\"0 0 840 1188\" font-family=\"sans-serif\">"
-    print "<title>" escaped(name) "</title>"
-    print "<rect width=\"840\" height=\"1188\" fill=\"white\"/>"
-    y = 60
-    words(40, fitting(name, 26, 0.69), "bold", "start", name)
-    y = 92
-    if (title != "") words(40, fitting(headline(), 17, 0.6), "normal", "start", headline())
-    y = title != "" ? 118 : 92
-    words(40, 17, "normal", "start", "pattern " pattern(cord))
-    y = top - radius - 14
-    words(left, 15, "normal", "middle", "jacks")
-    words(right, 15, "normal", "middle", "ports")
-}
-
-# the size, of its letters' width to it, at which a text fits into the width of the page
-function fitting(text, size, part) { return length(text) * size * part > 760 ? 760 / (length(text) * part) : size }
-
-# a line of text at height y
-function words(x, size, weight, anchor, text) {
-    printf "<text x=\"%.2f\" y=\"%.2f\" font-size=\"%.2f\" font-weight=\"%s\" text-anchor=\"%s\">%s</text>\n", x, y, size, weight, anchor, escaped(text)
+    svg_begin(name)
+    caption(40, 60, fitting(name, 26, 0.69), "bold", "start", name)
+    if (title != "") caption(40, 92, fitting(headline(), 17, 0.6), "normal", "start", headline())
+    caption(40, (title == "" ? 92 : 118), 17, "normal", "start", "pattern " pattern(cord))
+    caption(left, top - radius - 14, 15, "normal", "middle", "jacks")
+    caption(right, top - radius - 14, 15, "normal", "middle", "ports")
 }
 
 function draw_cord(j,    middle, path) {
@@ -66,38 +49,36 @@ function draw_cord(j,    middle, path) {
 function ring(class, x, k, j) {
     printf "<circle class=\"%s\" cx=\"%.2f\" cy=\"%.2f\" r=\"%.2f\" fill=\"white\" stroke=\"%s\" stroke-width=\"%s\"/>\n", \
         class, x, height(k), radius, colour[j], (moves(j) ? "4" : "2.5")
-    printf "<text x=\"%.2f\" y=\"%.2f\" dy=\"0.36em\" font-size=\"%.2f\" font-weight=\"bold\" text-anchor=\"middle\">%d</text>\n", x, height(k), radius * 1.1, k
+    printf "<text x=\"%.2f\" y=\"%.2f\" dy=\"0.36em\" font-size=\"%.2f\" font-weight=\"bold\" text-anchor=\"middle\">%d</text>\n", \
+        x, height(k), radius * 1.1, k
 }
 
 # the wiring: under each jack its port, and its port after the move
-function table(    j, wide) {
-    wide = ports > 14 ? 650 / ports : 46
-    words(40, 15, "bold", "start", "jack")
-    for (j = 1; j <= ports; j++) words(140 + (j - 0.5) * wide, 15, "bold", "middle", j)
-    rule(140 + ports * wide)
+function table(    j) {
+    cell = ports > 14 ? 650 / ports : 46
+    caption(40, y, 15, "bold", "start", "jack")
+    for (j = 1; j <= ports; j++) caption(140 + (j - 0.5) * cell, y, 15, "bold", "middle", j)
+    printf "<path d=\"M 40 %.2f L %.2f %.2f\" stroke=\"black\" stroke-width=\"1\"/>\n", y + 7, 140 + ports * cell, y + 7
     y += 26
-    words(40, 15, "normal", "start", "port")
-    for (j = 1; j <= ports; j++) words(140 + (j - 0.5) * wide, 15, "normal", "middle", cord[j])
+    caption(40, y, 15, "normal", "start", "port")
+    for (j = 1; j <= ports; j++) caption(140 + (j - 0.5) * cell, y, 15, "normal", "middle", cord[j])
     if (ended != "") return
     y += 24
-    words(40, 15, "normal", "start", "next port")
-    for (j = 1; j <= ports; j++) words(140 + (j - 0.5) * wide, 15, (moves(j) ? "bold" : "normal"), "middle", after[j])
+    caption(40, y, 15, "normal", "start", "next port")
+    for (j = 1; j <= ports; j++) caption(140 + (j - 0.5) * cell, y, 15, (moves(j) ? "bold" : "normal"), "middle", after[j])
 }
-
-function rule(to) { printf "<path d=\"M 40 %.2f L %.2f %.2f\" stroke=\"black\" stroke-width=\"1\"/>\n", y + 7, to, y + 7 }
 
 # the next move in words
 function move(    piece, n) {
     if (ended != "") {
-        words(40, 17, "bold", "start", end_words())
+        caption(40, y, 17, "bold", "start", end_words())
         return
     }
     n = change_pieces(piece)
-    words(40, 17, "bold", "start", "next: " mark_words(2))
-    y += 25
-    words(40, 15, "normal", "start", "pattern " pattern(after))
-    y += 25
-    words(40, 15, "normal", "start", n == 0 ? "no cord moves" : "The heavy cords move:")
+    caption(40, y, 17, "bold", "start", "next: " mark_words(2))
+    caption(40, y + 25, 15, "normal", "start", "pattern " pattern(after))
+    caption(40, y + 50, 15, "normal", "start", n == 0 ? "no cord moves" : "The heavy cords move:")
+    y += 50
     paragraph(piece, n)
     y += 6
     n = order_pieces(piece, 1)
@@ -109,6 +90,6 @@ function paragraph(piece, n,    text, k, lines) {
     lines = filled(piece, n, 108, text)
     for (k = 1; k <= lines; k++) {
         y += 19
-        words(40, 14, "normal", "start", text[k])
+        caption(40, y, 14, "normal", "start", text[k])
     }
 }
