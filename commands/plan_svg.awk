@@ -58,7 +58,8 @@ function ticks(    k) {
 # a tick at a rank, with its label where it is a long one
 function tick_at(text, long,    turn, anchor, side) {
     turn = text / count
-    printf "<path d=\"M %s L %s\" stroke=\"black\" stroke-width=\"%s\"/>\n", place(turn, radius), place(turn, radius + 4 + long), (long ? "2" : "1")
+    printf "<path class=\"%s\" d=\"M %s L %s\" stroke=\"black\" stroke-width=\"%s\"/>\n", \
+        (long ? "tick" : "between"), place(turn, radius), place(turn, radius + 4 + long), (long ? "2" : "1")
     if (!long) return
     side = sine(turn)
     anchor = side > 0.3 ? "start" : (side < -0.3 ? "end" : "middle")

@@ -1,20 +1,26 @@
 # The picture of a plan, read back from where its parts stand: the circle of class circuit has rank 0 at its top, clockwise rising; each path of class leg
 # is an arc about its centre. For each leg in order it prints where the arc begins and ends, in thousandths of a turn, and its direction; `once round`
-# where it comes back to its beginning; `one mark` where it is a point; or `broken: why`.
+# where it comes back to its beginning; `one mark` where it is a point; or `broken: why`. With ticks=1 it prints instead, for each path of class tick,
+# the rank that is written at its outer end, and where it stands.
 BEGIN { RS = ">" }
 {
-    tag = $0
+    text = tag = $0
+    sub(/<.*/, "", text)
     if (!sub(/^[^<]*</, "", tag)) next
     class = attribute("class")
     if (tag ~ /[ \t\n]transform=/) moved = 1
     if (tag ~ /^circle[ \t\n]/ && class == "circuit") { circuits++; middle_x = attribute("cx"); middle_y = attribute("cy"); outer = attribute("r") }
     if (tag ~ /^circle[ \t\n]/ && class == "start") { dots++; dot_x[dots] = attribute("cx"); dot_y[dots] = attribute("cy") }
+    if (tag ~ /^text[ \t\n]/) { texts++; text_x[texts] = attribute("x"); text_y[texts] = attribute("y") }
+    if (tag ~ /^\/text/) content[texts] = text
+    if (tag ~ /^path[ \t\n]/ && class == "tick") tick[++long_ticks] = attribute("d")
     if (tag ~ /^path[ \t\n]/ && class == "leg") path[++legs] = attribute("d")
     if (tag ~ /^path[ \t\n]/ && class == "head") head[legs] = attribute("d")
 }
 
 END {
     if (moved || circuits != 1 || legs < 1 || dots != legs) print "broken: " (moved ? "a part that is moved" : "no circuit, no leg or no dot")
+    else if (ticks) for (k = 1; k <= long_ticks; k++) print labelled(tick[k])
     else for (leg = 1; leg <= legs; leg++) print told(leg)
 }
 
@@ -74,12 +80,21 @@ function arc(part, i, away, sweep,    begin, end, step) {
 
 function far(a, b) { return a - b > 0.1 || b - a > 0.1 }
 
-# whether the head's three corners have the leg's end in the middle of one side, and the third lies on in that direction
+# whether the head's three corners have the leg's end in the middle of one side, and the third lies on the ring, a little on in that direction
 function leads(leg, x, y, sweep,    part, ahead) {
     if (!(leg in head) || parts(head[leg], part) != 10) return 0
     if (distance((part[2] + part[8]) / 2, (part[3] + part[9]) / 2, x, y) > 1) return 0
+    if (far(distance(part[5], part[6], middle_x, middle_y), ring[leg]) || distance(part[5], part[6], x, y) > 30) return 0
     ahead = (x - middle_x) * (part[6] - y) - (y - middle_y) * (part[5] - x)
     return sweep == 1 ? ahead > 0 : ahead < 0
+}
+
+# a tick from the circuit outward, and the one label at its outer end
+function labelled(d,    part, t, found, rank) {
+    if (parts(d, part) != 6 || far(distance(part[2], part[3], middle_x, middle_y), outer)) return "broken: a tick that is not on the circuit"
+    for (t = 1; t <= texts; t++) if (distance(part[5], part[6], text_x[t], text_y[t]) < 20) { found++; rank = content[t] }
+    if (found != 1) return "broken: a tick without its label"
+    return rank " " thousandths(part[2], part[3])
 }
 
 # a square root by Newton and an arc tangent by its series: not every awk has them

@@ -53,6 +53,6 @@ function unused(    r, c, sign, begin) {
 # how many ports are named, from 1 on
 function ports_named(    n, k, name) {
     n = split(grid[1], name, " ")
-    for (k = 2; k <= n; k++) if (name[k] != k - 1) return 0
+    for (k = 2; k <= n; k++) if (name[k] "" != (k - 1) "") return 0
     return n - 1
 }
