@@ -7,10 +7,10 @@ $1 == "cord" && NF == 3 { cord[$2 + 0] = $3 + 0; cords++; next }
 $1 == "swap" && NF == 3 || $1 == "turn" && NF == 4 { order[++orders] = $0 ""; next }
 $1 == "mark" && NF == 3 { number[++marks] = $2 ""; rank[marks] = $3 ""; next }
 $1 == "legs" && NF == 2 { legs = $2 + 0; next }
-$1 == "start" && NF == 2 { start[++starts] = $2 ""; next }
+$1 == "start" && NF == 2 { starts++; next }
 $1 == "run" && NF == 2 { run[++runs] = $2 ""; next }
 $1 == "end" && NF == 2 { ended = $2 ""; next }
-{ stray = $0 "" }
+stray == "" { stray = $0 "" }
 
 # what is wrong with facts of any kind, or nothing
 function fault() {

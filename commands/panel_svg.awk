@@ -6,7 +6,8 @@ END {
     set_out()
     for (j = 1; j <= ports; j++) holder[cord[j]] = j
     begin()
-    for (j = 1; j <= ports; j++) draw_cord(j)
+    for (j = 1; j <= ports; j++) if (moves(j)) draw_cord(j, 6)
+    for (j = 1; j <= ports; j++) if (!moves(j)) draw_cord(j, 2.5)
     for (j = 1; j <= ports; j++) ring("jack", left, j, j)
     for (p = 1; p <= ports; p++) ring("port", right, p, holder[p])
     y = height(ports) + radius + 50
@@ -38,11 +39,12 @@ function begin(    name) {
     caption(right, top - radius - 14, 15, "normal", "middle", "ports")
 }
 
-function draw_cord(j,    middle, path) {
+# the cord of jack j; the light ones come last, so that no heavy one hides them
+function draw_cord(j, wide,    middle, path) {
     middle = (left + right) / 2
     path = sprintf("M %.2f %.2f C %.2f %.2f %.2f %.2f %.2f %.2f", left, height(j), middle, height(j), middle, height(cord[j]), right, height(cord[j]))
     printf "<path class=\"cord\" d=\"%s\" fill=\"none\" stroke=\"%s\" stroke-width=\"%s\" stroke-dasharray=\"%s\"/>\n", \
-        path, colour[j], (moves(j) ? "6" : "2.5"), dash[(j - 1) % dashes + 1]
+        path, colour[j], wide, dash[(j - 1) % dashes + 1]
 }
 
 # the k-th circle of a column with its number, in the colour of its cord
@@ -77,7 +79,7 @@ function move(    piece, n) {
     n = change_pieces(piece)
     caption(40, y, 17, "bold", "start", "next: " mark_words(2))
     caption(40, y + 25, 15, "normal", "start", "pattern " pattern(after))
-    caption(40, y + 50, 15, "normal", "start", n == 0 ? "no cord moves" : "The heavy cords move:")
+    caption(40, y + 50, 15, "normal", "start", n == 0 ? "no cord moves" : "the heavy cords move:")
     y += 50
     paragraph(piece, n)
     y += 6

@@ -114,7 +114,7 @@ function head(leg, ring, to,    tip, path) {
 
 # under the circle a row for each leg
 function legend(    leg, y, size) {
-    size = length(ended) > 12 || length(count) > 12 ? 10 : 14
+    size = length(ended) > 10 || length(count) > 10 ? 10 : 14
     split(size == 10 ? "86 112 396 654" : "86 130 360 590", column, " ")
     y = 716
     row(y, size, "bold", "leg", "marks", "ranks", "way")

@@ -1,5 +1,6 @@
 # The picture of a panel, read back from where its parts stand: a circle of class jack or port has the number that is written at its centre; a path of
-# class cord joins the jack at its first point to the port at its last, each within one unit. It prints the pattern, or `broken: why`.
+# class cord joins the jack at its first point to the port at its last, each within one unit. It prints the pattern, or `broken: why`. With heavy=1 it
+# prints instead the jacks whose cords are heavy, 4 units wide or more, or `none`.
 BEGIN { RS = ">" }
 {
     text = tag = $0
@@ -9,19 +10,21 @@ BEGIN { RS = ">" }
     if (tag ~ /^circle[ \t\n]/) circle(attribute("class"))
     else if (tag ~ /^text[ \t\n]/) { texts++; text_x[texts] = attribute("x"); text_y[texts] = attribute("y") }
     else if (tag ~ /^\/text/) content[texts] = text
-    else if (tag ~ /^path[ \t\n]/ && attribute("class") == "cord") path[++cords] = attribute("d")
+    else if (tag ~ /^path[ \t\n]/ && attribute("class") == "cord") { path[++cords] = attribute("d"); wide[cords] = attribute("stroke-width") }
 }
 
 END {
     for (c = 1; c <= circles; c++) name(c)
-    for (k = 1; k <= cords; k++) join(path[k])
+    for (k = 1; k <= cords; k++) join(path[k], wide[k])
     if (count["jack"] < 2 || count["jack"] != count["port"]) breaks((count["jack"] + 0) " jacks and " (count["port"] + 0) " ports")
     for (j = 1; j <= count["jack"]; j++) {
         if (!(("jack", j) in named)) breaks("no jack " j)
         if (!(("port", j) in named)) breaks("no port " j)
         if (!(j in port)) breaks("jack " j " without a cord")
         pattern = pattern (j > 1 ? "," : "") port[j]
+        if (thick[j]) moving = moving (moving == "" ? "" : ",") j
     }
+    if (heavy) pattern = moving == "" ? "none" : moving
     print (why == "" ? pattern : "broken: " why)
 }
 
@@ -62,7 +65,7 @@ function met(class, x, y,    c, found, at) {
 }
 
 # a cord: one stroke of curves and straight lines in absolute coordinates
-function join(d,    n, part, from, to) {
+function join(d, width,    n, part, from, to) {
     gsub(/,/, " ", d)
     gsub(/[A-Za-z]/, " & ", d)
     n = split(d, part, " ")
@@ -73,7 +76,7 @@ function join(d,    n, part, from, to) {
     else if (to == "") breaks("a cord that ends at no port")
     else if (from in port) breaks("jack " from " with two cords")
     else if (to in held) breaks("port " to " with two cords")
-    else { port[from] = to; held[to] = from }
+    else { port[from] = to; held[to] = from; thick[from] = width + 0 >= 4 }
 }
 
 # whether M and its point are followed by strokes L, C, S, Q or T, each with as many numbers as it takes
