@@ -1,6 +1,10 @@
 # What the four drawers share: the facts, lines of key=value on standard input, read into variables; the move carried out on the panel; its words.
 # Ranks, counts and mark numbers are kept as text: they go beyond the whole numbers that awk holds.
-BEGIN { FS = "[=,]" }
+# The environment has what a drawing is called, `title`, as it is.
+BEGIN {
+    FS = "[=,]"
+    title = ENVIRON["title"]
+}
 $1 == "ports" && NF == 2 { ports = $2 + 0; next }
 $1 == "count" && NF == 2 { count = $2 ""; next }
 $1 == "cord" && NF == 3 { cord[$2 + 0] = $3 + 0; cords++; next }

@@ -24,7 +24,7 @@ commands_file minus 'ports=4\nlegs=1\nstart=0\nrun=-0\n'
 commands_file no-newline 'ports=4\nlegs=1\nstart=0\nrun=0'
 commands_file missing 'ports=4\nlegs=2\nstart=0\nrun=0\n'
 commands_file circuit-20 'ports=20\nlegs=1\nstart=0\nrun=895014631192902120\n'
-{ printf 'ports=' && head -c 2000 /dev/zero | tr '\0' 1; } >"$T/long-line"
+{ printf 'ports=' && head -c 2000 /dev/zero | tr '\0' 1 && echo; } >"$T/long-line"
 cp plans/example "$T/-plan"
 cp plans/example "$T/a plan"
 ln -s "$root/bin/orders" "$T/link"
