@@ -82,7 +82,20 @@ else
     cat "$T/err"
     fail 'commands: a long print does not say how far it is'
 fi
-# the number of marks that a progress line says have gone by is the one that the orders have come to there: told after a buffer, before the next
+# so many marks have gone by, it says, as stand in the buffers of 64 KiB whole lines that were printed by then
+if awk '
+    NR == FNR {
+        if (used + length($0) + 1 > 65536) { gone[marks + 0] = 1; used = 0 }
+        used += length($0) + 1
+        if ($0 ~ /^mark=/) marks++
+        next
+    }
+    / %: / { told++; if (!($4 in gone)) exit 1 }
+    END { exit told < 8 }' "$T/out" "$T/err"; then
+    pass 'commands: as many marks as it says have gone by'
+else
+    fail 'commands: another number of marks has gone by than it says'
+fi
 script -qec "bin/orders plans/full-circuit-10 >$T/out" /dev/null </dev/null >"$T/screen"
 screen=$(tr '\r' '\n' <"$T/screen" | grep -c '^orders: [0-9]* %: ')
 script -qec "bin/orders plans/full-circuit-6" /dev/null </dev/null >"$T/beside"

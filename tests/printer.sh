@@ -1,4 +1,4 @@
-# The order printer as a planner runs it: bin/orders on plan files, good and bad, and with an output that fails.
+# What the order printer prints: bin/orders on plan files, good and bad. How it ends and what it says in words is in commands.sh.
 printer_out=$(mktemp -d)
 
 # printed LABEL: what bin/orders prints for the plan in $printer_out/plan, nothing on standard error, is what stands in $printer_out/expected
@@ -111,44 +111,4 @@ else
     fail "docs/PLANS.md has another count for $ports ports"
 fi
 
-# where the program cannot be built
-mkdir "$printer_out/commands"
-for tool in dirname readlink sh; do ln -s "$(command -v $tool)" "$printer_out/commands/$tool"; done
-PATH=$printer_out/commands bin/orders <plans/example >"$printer_out/found" 2>"$printer_out/said"
-if [ $? -eq 1 ] && [ ! -s "$printer_out/found" ] && [ "$(cat "$printer_out/said")" = 'orders: the command rt of the Rattle kit is not on PATH' ]; then
-    pass 'orders: without the kit it ends with 1 and says so'
-else
-    cat "$printer_out/found" "$printer_out/said"
-    fail 'orders: without the kit it does not end with 1, or does not say so'
-fi
-
-# an output that cannot be written: one line on standard error, and nothing hangs
-if bin/orders <plans/full-circuit-10 2>"$printer_out/said" >/dev/full; [ "$(cat "$printer_out/said")" = 'orders: the output could not be written' ]; then
-    pass 'orders: a full device is said in one line'
-else
-    cat "$printer_out/said"
-    fail 'orders: a full device is not said'
-fi
-if bin/orders <plans/example 2>"$printer_out/said" >&-; [ "$(cat "$printer_out/said")" = 'orders: the output could not be written' ]; then
-    pass 'orders: a closed output is said in one line'
-else
-    cat "$printer_out/said"
-    fail 'orders: a closed output is not said'
-fi
-# a reader that goes away ends the printer by SIGPIPE, as it ends other filters; where that signal is ignored it is said as any other failure
-first=$({ bin/orders <plans/full-circuit-10 2>"$printer_out/said"; echo "status $?" >>"$printer_out/said"; } | head -n 1)
-case $first,$(cat "$printer_out/said") in
-    'mark=0,0,status 141' | "mark=0,0,orders: the output could not be written"*) pass 'orders: a pipe that is closed early ends it' ;;
-    *)
-        cat "$printer_out/said"
-        fail 'orders: a pipe that is closed early does not end it'
-        ;;
-esac
-# an input that cannot be read
-if bin/orders </ 2>"$printer_out/said" >"$printer_out/found"; [ ! -s "$printer_out/found" ] && [ "$(cat "$printer_out/said")" = 'orders: the plan could not be read' ]; then
-    pass 'orders: an input that cannot be read is said in one line'
-else
-    cat "$printer_out/found" "$printer_out/said"
-    fail 'orders: an input that cannot be read is not said'
-fi
 rm -rf "$printer_out"
