@@ -18,24 +18,37 @@ probe() {
     echo "$1: $types_over" >>"$types_copy/crates.txt"
 }
 
-# twins LABEL RIGHT WRONG ERROR LINES: LINES with WORD read as RIGHT builds and is proved; read as WRONG it is refused with that mismatch of the types
+# twins LABEL RIGHT WRONG ERROR LINES: LINES with WORD read as RIGHT is to build and be proved, read as WRONG to be refused with that mismatch of the types
+types_twins=''
 twins() {
     probe "$1_right" "$(echo "$5" | sed "s/WORD/$2/g")"
     probe "$1_wrong" "$(echo "$5" | sed "s/WORD/$3/g")"
-    if (cd "$types_copy" && rt check "$1_right") >"$types_copy/log" 2>&1; then
-        pass "types: $1: with a $2 it builds and is proved"
-    else
-        cat "$types_copy/log"
-        fail "types: $1: with a $2 it does not build"
-    fi
-    if (cd "$types_copy" && rt check "$1_wrong") >"$types_copy/log" 2>&1; then
-        fail "types: $1: with a $3 it builds"
-    elif grep -qF "error[mismatched-types]: $4" "$types_copy/log"; then
-        pass "types: $1: with a $3 it does not build"
-    else
-        cat "$types_copy/log"
-        fail "types: $1: with a $3 it is refused for another reason"
-    fi
+    types_twins="$types_twins$1 $2 $3 $4
+"
+}
+# judge: all probes at once, and what was said of each
+judge() {
+    (cd "$types_copy" && RT_JOBS=4 rt check $(echo "$types_twins" | awk 'NF { print $1 "_right" }')) >"$types_copy/rights" 2>&1
+    (cd "$types_copy" && RT_JOBS=4 rt check $(echo "$types_twins" | awk 'NF { print $1 "_wrong" }')) >"$types_copy/wrongs" 2>&1
+    while read -r label right wrong error; do
+        [ -n "$label" ] || continue
+        if grep -q "^rt: ${label}_right proved" "$types_copy/rights"; then
+            pass "types: $label: with a $right it builds and is proved"
+        else
+            cat "$types_copy/rights"
+            fail "types: $label: with a $right it does not build"
+        fi
+        if grep -q "^rt: ${label}_wrong proved" "$types_copy/wrongs"; then
+            fail "types: $label: with a $wrong it builds"
+        elif grep -qF "error[mismatched-types]: $error" "$types_copy/target/log/${label}_wrong.out"; then
+            pass "types: $label: with a $wrong it does not build"
+        else
+            cat "$types_copy/wrongs"
+            fail "types: $label: with a $wrong it is refused for another reason"
+        fi
+    done <<TWINS
+$types_twins
+TWINS
 }
 port_for_jack='expected `Jack`, found `Port`'
 jack_for_port='expected `Port`, found `Jack`'
@@ -68,4 +81,5 @@ rehearsal_for_campaign='expected `Campaign`, found `Rehearsal`'
 twins fill_takes Rehearsal Campaign "$campaign_for_rehearsal" 'pub fn probe(x: WORD, buf: &mut [u8]) -> Printed { fill(x, buf) }'
 twins request_takes Campaign Rehearsal "$rehearsal_for_campaign" 'pub fn probe(x: WORD, buf: &mut [u8]) -> Requested { Campaign::request(x, buf) }'
 twins report_takes Campaign Rehearsal "$rehearsal_for_campaign" 'pub fn probe(x: WORD) -> Reported { Campaign::report(x, 0) }'
+judge
 rm -rf "$types_copy"
