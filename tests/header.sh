@@ -85,19 +85,28 @@ header_programs() {
 
 # ---- headers that are wrong in one thing
 
-# header_refused_by FILE KIND: what refuses this header first, or nothing; where a constant is wrong the program alone is asked
+# header_refused_by FILE KIND ROOM: what refuses this header first, or nothing; where a constant is wrong the program alone is asked. ROOM is a folder for it.
 header_refused_by() {
     if [ "$2" != constant ]; then
         for header_subject in declarations numbers; do
             header_same "$1" "$header_subject" || { echo "$header_subject"; return; }
         done
     fi
-    cp "$1" "$header_out/edited/jidrofex.h"
-    if ! cc -std=c90 -O0 -I"$header_out/edited" -o "$header_out/edited/program" tests/header/header.c "$header_archive" >"$header_out/log" 2>&1; then
+    cp "$1" "$3/jidrofex.h"
+    if ! cc -std=c90 -O0 -I"$3" -o "$3/program" tests/header/header.c "$header_archive" >"$3/log" 2>&1; then
         echo compiler
-    elif ! "$header_out/edited/program" >"$header_out/log" 2>&1; then
-        tail -n 1 "$header_out/log" | grep -Eqx 'header: [0-9]* comparisons, [1-9][0-9]* failed' && echo comparisons || echo crash
+    elif ! "$3/program" >"$3/log" 2>&1; then
+        tail -n 1 "$3/log" | grep -Eqx 'header: [0-9]* comparisons, [1-9][0-9]* failed' && echo comparisons || echo crash
     fi
+}
+
+# header_judge HALF: every second edited header, from the HALF-th on: what refuses it
+header_judge() {
+    mkdir -p "$header_out/edited/$1"
+    awk -v half="$1" 'NR % 2 == half' "$header_out/edits/list" | while read -r header_number header_kind header_what; do
+        header_by=$(header_refused_by "$header_out/edits/$header_number.h" "$header_kind" "$header_out/edited/$1")
+        echo "${header_by:-nothing} $header_kind $header_what"
+    done >"$header_out/judged-$1"
 }
 
 # how many edits there have to be, by what the header says: each constant one more, each pair of a call's parameters, each last number dropped
@@ -125,16 +134,18 @@ header_edits() {
         return
     fi
     # the header as it is, judged as the edited ones are: else they might be refused for nothing
-    header_by=$(header_refused_by include/jidrofex.h none)
+    header_by=$(header_refused_by include/jidrofex.h none "$header_out/edited")
     if [ -n "$header_by" ]; then
         fail "header: no edited header is tried, since the header itself is refused by its $header_by"
         return
     fi
-    while read -r header_number header_kind header_what; do
-        header_by=$(header_refused_by "$header_out/edits/$header_number.h" "$header_kind")
-        echo "${header_by:-nothing} $header_kind $header_what"
-    done <"$header_out/edits/list" >"$header_out/judged"
-    if grep -E '^nothing |^(compiler|crash) constant ' "$header_out/judged"; then
+    header_judge 0 &
+    header_judge 1
+    wait
+    cat "$header_out/judged-0" "$header_out/judged-1" >"$header_out/judged"
+    if [ "$(wc -l <"$header_out/judged")" -ne "$(wc -l <"$header_out/edits/list")" ]; then
+        fail 'header: not every edited header was judged'
+    elif grep -E '^nothing |^(compiler|crash) constant ' "$header_out/judged"; then
         fail 'header: an edited header is refused by nothing, or a wrong constant by no comparison'
     else
         pass "header: $(grep -c ' constant ' "$header_out/judged") headers with a wrong constant, each refused by comparisons of the program in C"
