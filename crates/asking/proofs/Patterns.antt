@@ -1,0 +1,118 @@
+-- What a line of entries is concluded to ask: by its newline, by its entries, and by the rank of the pattern that they are.
+-- Assumes nothing.
+use mathlib.Core.Path.{_≡_, refl, sym, ap, subst, _∙_}
+use mathlib.Core.Bool.{Bool, true, false, cond}
+use mathlib.Core.List.{List, [], _∷_, map}
+use mathlib.Core.Option.{Option, none, some}
+use Prim.Native.Nat.{ℕ, suc, _+_, _≤_, _<_}
+use native.Mathlib.Omega.{arith}
+use lib.Dec.{leb}
+use lib.IntN.{ℤ, pos}
+use lib.ListN.{length, take, drop, replicate, length-drop, length-map}
+use mir.Syntax.{w64}
+use mir.Val.{toZ, ofZ}
+use borrow.Author.Tests.{le-leb, lt-leb}
+use Rattle.listing.proofs.Numbers.{either, below?}
+use Rattle.listing.specs.Limits.{mostPorts, mostLegs, largest64}
+use Rattle.words.specs.Told.{Told, Spot, accepted, refused, nowhere, then, need}
+use Rattle.words.specs.Meaning.{outcomeTold}
+use Rattle.words.specs.Padded.{padded}
+use Rattle.words.proofs.Padded.{padded-room, padded-front}
+use Rattle.text_keys.specs.Parts.{newline, firstOf}
+use Rattle.words.specs.Signs.{signedLimit}
+use Rattle.words.proofs.WithSign.{stored}
+use Rattle.plan_rules.specs.Planned.{runOf}
+use Rattle.plan_rules.specs.Places.{placed}
+use Rattle.plan_rules.specs.declared.Plan.{Plan}
+use Rattle.patterns.specs.Calls.{rankOf}
+use Rattle.asking.specs.Entries.{entriesIn, entryByte, fewEntries, entriesOf}
+use Rattle.asking.specs.Pieces.{givenIn, EntriesIs}
+use Rattle.asking.specs.Questions.{alone, oneLine, patternLeg, ofPattern, entriesAsked, patternAsked}
+use Rattle.asking.specs.declared.entries.Entries.{Entries}
+use Rattle.asking.proofs.Ruled.{refused-on, accepted-gives}
+
+-- ---- the newline
+
+module _ (t : List ℕ) where
+  -- there is none
+  pub no-line : none ≡ firstOf newline t → refused 11 nowhere ≡ patternAsked t
+  unfolding patternAsked oneLine
+  no-line e = rw (← e)
+
+  module _ (k : ℕ) (e : some k ≡ firstOf newline t) where
+    -- a byte comes after it
+    pub goes-on : k + 1 < length t → refused 11 nowhere ≡ patternAsked t
+    unfolding patternAsked oneLine
+    goes-on h = rw (← e, lt-leb (length (drop (suc k) t)) 0 (omega (arith, length-drop (suc k) t)))
+
+    -- none does: the entries before it decide
+    pub one-line : length t ≤ k + 1 → entriesAsked (take k t) ≡ patternAsked t
+    unfolding patternAsked oneLine
+    one-line h = rw (← e, le-leb (length (drop (suc k) t)) 0 (omega (arith, length-drop (suc k) t)))
+
+-- ---- the entries
+
+-- no more are given than there are ports
+few-given : (o : Option (List ℕ)) → length (givenIn (then (need 8 nowhere o) fewEntries)) ≤ mostPorts
+unfolding fewEntries
+few-given none = omega arith
+few-given (some ns) =
+    either (below? mostPorts (length ns))
+    (λ m. rw (lt-leb (length ns) mostPorts m) (omega arith))
+    (λ m. rw (le-leb (length ns) mostPorts m) (omega (arith, length-map ns entryByte)))
+
+module _ (t : List ℕ) (r : Entries) (R : EntriesIs (entriesOf t) r) where
+  -- they are no more than there are ports, and lie in the array
+  pub entries-few : r .len ≤ mostPorts
+  unfolding entriesOf
+  entries-few = omega (arith, R .len, few-given (entriesIn largest64 t))
+
+  pub entries-within : r .len ≤ length (r .bytes)
+  entries-within = omega (arith, R .len, padded-room mostPorts 0 (givenIn (entriesOf t)), ap length (R .bytes))
+
+  -- they were refused
+  pub not-entries : (k : ℕ) (s : Spot) → refused k s ≡ outcomeTold (r .judged) → refused k s ≡ entriesAsked t
+  unfolding entriesAsked
+  not-entries k s e = refused-on (entriesOf t) (λ p. tt) (λ p. then (rankOf mostPorts p) (λ x. accepted (ofPattern (length p) x))) k s (e ∙ R .judged)
+
+  -- they were read
+  module _ (ok : accepted tt ≡ outcomeTold (r .judged)) where
+    given : (p : List ℕ) × (entriesOf t ≡ accepted p)
+    given = accepted-gives (entriesOf t) (λ p. tt) tt (ok ∙ R .judged)
+
+    long : r .len ≡ length (given .0)
+    long = R .len ∙ ap (λ told. length (givenIn told)) (given .1)
+
+    -- they stand at the front of the array
+    front : take (r .len) (r .bytes) ≡ given .0
+    front =
+        ap (take (r .len)) (R .bytes) ∙ ap (λ told. take (r .len) (padded mostPorts 0 (givenIn told))) (given .1)
+        ∙ padded-front mostPorts (r .len) 0 (given .0) (sym long)
+
+    -- their rank is refused
+    pub unranked : (k : ℕ) (s : Spot) → refused k s ≡ rankOf mostPorts (take (r .len) (r .bytes)) → refused k s ≡ entriesAsked t
+    unfolding entriesAsked
+    unranked k s e = let f : refused k s ≡ rankOf mostPorts (given .0) = e ∙ ap (rankOf mostPorts) front in rw (given .1, ← f)
+
+    -- they have a rank
+    pub ranked : (x : ℕ) → accepted x ≡ rankOf mostPorts (take (r .len) (r .bytes)) → accepted (ofPattern (r .len) x) ≡ entriesAsked t
+    unfolding entriesAsked
+    ranked x e =
+        let f : accepted x ≡ rankOf mostPorts (given .0) = e ∙ ap (rankOf mostPorts) front in
+        ap (λ n. accepted (ofPattern n x)) long ∙ rw (given .1, ← f)
+
+-- ---- the plan
+
+-- the step is small
+step-small : (b : Bool) → cond b 0 1 < signedLimit
+step-small true = omega arith
+step-small false = omega arith
+
+-- one leg from a rank on, in its places
+pub from-rank-placed : (n r : ℕ) (z : ℤ) → z ≡ pos (cond (leb n 2) 0 1)
+    → _≡_ {A = Plan} (record { ports = n; legs = 1; starts = r ∷ replicate 15 0; runs = toZ w64 (ofZ w64 z) ∷ replicate 15 (pos 0) })
+    (placed mostLegs (ofPattern n r .plan))
+unfolding placed
+from-rank-placed n r z e =
+    ap (λ (y : ℤ). record { ports = n; legs = 1; starts = r ∷ replicate 15 0; runs = y ∷ replicate 15 (pos 0) })
+    (ap (λ y. toZ w64 (ofZ w64 y)) e ∙ stored (runOf (patternLeg n r)) (step-small (leb n 2)))

@@ -1,0 +1,21 @@
+-- `asking::entries::counted`: what is held is all there is, unless there were more entries than places.
+-- Assumes nothing.
+use mathlib.Core.Path.{sym}
+use borrow.Author.Needs.{needs}
+use Rattle.asking.proofs.Held.{too-many, few-enough}
+use Rattle.asking.proofs.entries.counted.Statement.{statement}
+use Rattle.asking.proofs.entries.counted.Tie as tie
+
+returns : tie.Need-returns
+returns c ns H = too-many ns _ H (c .before .if1 .taken) _ (c .refused .ensures)
+
+returns-2 : tie.Need-returns-2
+returns-2 c ns H = few-enough ns _ H (c .before .if1 .left)
+
+pub counted-spec : {M : Type 1} → statement M
+counted-spec =
+    tie.close
+    (tie.spec
+    (λ c κs. search needs)
+    returns
+    returns-2)

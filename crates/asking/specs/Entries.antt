@@ -1,0 +1,44 @@
+-- A pattern as one text: its entries in order of the jacks, with commas between them. What a text is read as, and its refusals in their order: 8 where an entry
+-- is no number as plans have them, then 1 where there are more entries than the most ports.
+-- Assumes nothing.
+use Prim.Native.Nat.{ℕ}
+use mathlib.Core.Bool.{cond}
+use mathlib.Core.List.{List, [], _∷_, map}
+use mathlib.Core.Option.{Option, some, Option·map, bind}
+use lib.Dec.{eqb, leb}
+use lib.ListN.{length}
+use Rattle.listing.specs.Limits.{mostPorts, largest64}
+use Rattle.words.specs.Told.{Told, accepted, refused, nowhere, then, need}
+use Rattle.text_numbers.specs.Decimal.{numberUpTo}
+use Rattle.text_keys.specs.Parts.{comma}
+
+-- a byte in front of the first of some texts
+abbrev pub onFirst : ℕ → List (List ℕ) → List (List ℕ)
+onFirst b [] = (b ∷ []) ∷ []
+onFirst b (p ∷ ps) = (b ∷ p) ∷ ps
+
+-- the texts between the commas of a text: one more than it has commas
+unfoldable pub pieces : List ℕ → List (List ℕ)
+pieces [] = [] ∷ []
+pieces (b ∷ t) = cond (eqb b comma) ([] ∷ pieces t) (onFirst b (pieces t))
+
+-- the numbers that texts are, where each is one
+unfoldable pub eachNumber : ℕ → List (List ℕ) → Option (List ℕ)
+eachNumber most [] = some []
+eachNumber most (p ∷ ps) = bind (numberUpTo most p) (λ n. Option·map (λ ns. n ∷ ns) (eachNumber most ps))
+
+-- the entries that a text is, each up to `most`: nothing between two commas is no number
+unfoldable pub entriesIn : ℕ → List ℕ → Option (List ℕ)
+entriesIn most t = eachNumber most (pieces t)
+
+-- an entry as a byte: one above 255 is held as 0, which is no port either, so it is refused (3) as any other that is none of 1..n
+abbrev pub entryByte : ℕ → ℕ
+entryByte n = cond (leb n 255) n 0
+
+-- entries as bytes: 1 where there are more than the most ports
+unfoldable pub fewEntries : List ℕ → Told (List ℕ)
+fewEntries ns = cond (leb (length ns) mostPorts) (accepted (map entryByte ns)) (refused 1 nowhere)
+
+-- what a text is told to be: 8, then 1; else its entries as bytes
+unfoldable pub entriesOf : List ℕ → Told (List ℕ)
+entriesOf t = then (need 8 nowhere (entriesIn largest64 t)) fewEntries

@@ -1,0 +1,4 @@
+pub mod Entries
+pub mod Pieces
+pub mod Questions
+pub mod Answers
