@@ -1,0 +1,41 @@
+// Facts as lines of key=value, in the format of plans.
+use line_writer::order_lines::Spelled;
+use line_writer::order_lines::and_both;
+use line_writer::order_lines::and_part;
+use line_writer::order_lines::begun;
+use words::Jack;
+use words::Port;
+use words::Signed;
+ghost use Prim.Native.Nat.{_≤_};
+ghost use lib.ListN.{length};
+ghost use Rattle.text_numbers.specs.Decimal.{digitsOf};
+ghost use Rattle.plan_lines.specs.Field.{fieldText};
+ghost use Rattle.line_writer.specs.Answers.{Spells};
+ghost use Rattle.showing.specs.Facts.{cordText, runText};
+
+// A cord: the jack, and the port that it holds.
+pub fn cord_line(j: Jack, p: Port) -> Spelled
+    ensures { λ r. ⌜ Spells r (cordText (j .0) (p .0)) ⌝ }
+{
+    let jack = begun(b"cord=", j.0 as u64);
+    let both = and_both(jack, b",", p.0 as u64);
+    and_part(both, b"\n")
+}
+
+// A number after its key.
+pub fn number_line(key: &[u8], n: u64) -> Spelled
+    requires { ⌜ length (now key) ≤ 8 ⌝ }
+    ensures { λ r. ⌜ Spells r (fieldText (now (key .entry)) (digitsOf n)) ⌝ }
+{
+    and_part(begun(key, n), b"\n")
+}
+
+// A run with its sign.
+pub fn run_line(run: Signed) -> Spelled
+    ensures { λ r. ⌜ Spells r (runText run) ⌝ }
+{
+    if run.back {
+        return number_line(b"run=-", run.magnitude);
+    }
+    number_line(b"run=", run.magnitude)
+}
