@@ -4,3 +4,4 @@ pub mod Ruled
 pub mod Patterns
 pub mod Plans
 pub mod Keys
+pub mod Asked

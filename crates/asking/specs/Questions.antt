@@ -61,8 +61,11 @@ abbrev pub markField : Field
 markField = unsigned largest64 markKey 0 largest64 6
 
 -- mark k of a plan: 6 if it has no such mark
+abbrev pub ofMark : ℕ → Planned → Asked
+ofMark k p = record { plan = p; whole = false; mark = k }
+
 abbrev pub markOf : ℕ → Planned → Told Asked
-markOf k p = cond (ltb k (marks (p .legs))) (accepted (record { plan = p; whole = false; mark = k })) (refused 6 nowhere)
+markOf k p = cond (ltb k (marks (p .legs))) (accepted (ofMark k p)) (refused 6 nowhere)
 
 -- mark k of the plan that a text is: the plan's refusals at its own lines, then 6
 unfoldable pub markedAsked : ℕ → List ℕ → Told Asked

@@ -1,0 +1,150 @@
+-- What an accepted question asks: a plan that fits, and a mark that it has (`question-fits`). So an answer's plan is within the rules and has the mark
+-- (`answer-ruled`, `answer-mark`), whichever kind of question it was.
+-- Assumes nothing.
+use mathlib.Core.Path.{_≡_, refl, sym, ap, subst, _∙_}
+use mathlib.Core.Bool.{Bool, true, false, cond, true≢false}
+use mathlib.Core.List.{List, [], _∷_}
+use Prim.Native.Nat.{ℕ, suc, _≤_, _<_}
+use native.Mathlib.Omega.{arith}
+use lib.Dec.{leb, ltb}
+use lib.ListN.{length, take, drop}
+use borrow.Author.Tests.{le-leb, lt-leb, ltb-true}
+use Rattle.listing.specs.Count.{count}
+use Rattle.listing.specs.Rank.{rank}
+use Rattle.listing.specs.Limits.{mostPorts, mostLegs}
+use Rattle.listing.proofs.Numbers.{either, below?, test}
+use Rattle.promise.specs.Plan.{Leg, marks}
+use Rattle.words.specs.Told.{Told, accepted, refused, nowhere, then}
+use Rattle.words.specs.Meaning.{outcomeTold}
+use Rattle.text_keys.specs.Parts.{begins}
+use Rattle.pattern_check.specs.Calls.{checkOf}
+use Rattle.pattern_check.proofs.Accepted.{accepted-pattern}
+use Rattle.patterns.specs.Calls.{rankOf}
+use Rattle.patterns.proofs.Accepted.{rank-fits}
+use Rattle.plan_lines.specs.Field.{fieldIn}
+use Rattle.plan_rules.specs.Planned.{Planned, EachFits, Fits, device}
+use Rattle.plan_rules.specs.Places.{placed, heldOf}
+use Rattle.plan_rules.specs.Rules.{legsOf, planRuled}
+use Rattle.plan_rules.proofs.Marks.{count-within}
+use Rattle.plans.specs.Calls.{readPlanOf}
+use Rattle.plans.proofs.Plans.{accepted-fits}
+use Rattle.asking.specs.Entries.{entriesOf}
+use Rattle.asking.specs.Questions.{patternKey, markKey, Asked, oneLine, patternLeg, ofPattern, entriesAsked, patternAsked, markField, ofMark, markOf, markedAsked, markAsked, wholePlan, wholeAsked, questionOf}
+use Rattle.asking.specs.Answers.{markIn, QuestionIs}
+use Rattle.asking.specs.declared.Question.{Question}
+use Rattle.asking.proofs.Ruled.{accepted-gives, held-ruled, held-legs}
+
+-- what an accepted question is: a plan that fits, and a mark of it
+pub record Asks (a : Asked) : Type 0 where
+  pub fits : Fits device (a .plan)
+  pub mark : a .mark < marks (a .plan .legs)
+
+-- what is accepted after a step was accepted there
+after : {A B : Type 0} (told : Told A) (f : A → Told B) (b : B) → then told f ≡ accepted b → (a : A) × (told ≡ accepted a) × (f a ≡ accepted b)
+after (accepted a) f b e = (a, refl, e)
+after (refused k s) f b e = absurd (true≢false (cc))
+
+-- ---- a pattern
+
+-- the leg from a pattern is no longer than the circuit
+step-below : (n : ℕ) → 2 ≤ n → 0 < count n → cond (leb n 2) 0 1 < count n
+unfolding count
+step-below n h z =
+    either (below? 2 n)
+    (λ m. rw (lt-leb n 2 m) (omega (arith, count-within 3 n (omega arith) m)))
+    (λ m. rw (le-leb n 2 m) z)
+
+-- the plan of one leg from a rank on fits, and has its first mark
+one-leg : (n r : ℕ) → 2 ≤ n → n ≤ mostPorts → r < count n → Asks (ofPattern n r)
+unfolding marks
+one-leg n r low high below = record {
+  fits = record {
+    fewPorts = low;
+    manyPorts = high;
+    fewLegs = omega arith;
+    manyLegs = omega arith;
+    each = (record { start = below; run = step-below n low (omega arith); behind = λ e. absurd (true≢false (sym e)) }, tt);
+  };
+  mark = omega arith;
+}
+
+entries-ask : (t : List ℕ) (a : Asked) → entriesAsked t ≡ accepted a → Asks a
+unfolding entriesAsked rankOf
+entries-ask t a e =
+    let x = after (entriesOf t) _ a e in
+    let p : List ℕ = x .0 in
+    let y = after (rankOf mostPorts p) _ a (x .2) in
+    let z = after (checkOf mostPorts p) (λ ok. accepted (rank (length p) p)) (y .0) (y .1) in
+    let ok : accepted tt ≡ checkOf mostPorts p = sym (z .1) in
+    let P = accepted-pattern mostPorts p ok in
+    let r : y .0 ≡ rank (length p) p = cc (z .2) in
+    let is : ofPattern (length p) (y .0) ≡ a = cc (y .2) in
+    subst Asks is (one-leg (length p) (y .0) (P .low) (P .high) (omega (arith, rank-fits mostPorts p ok, r)))
+
+pattern-asks : (t : List ℕ) (a : Asked) → patternAsked t ≡ accepted a → Asks a
+unfolding patternAsked
+pattern-asks t a e = let x = after (oneLine t) entriesAsked a e in entries-ask (x .0) a (x .2)
+
+-- ---- a plan
+
+-- a plan that fits has a mark
+some-mark : (ls : List Leg) → 1 ≤ length ls → 0 < marks ls
+unfolding marks
+some-mark [] h = absurd (omega arith)
+some-mark (l ∷ ls) h = omega arith
+
+whole-asks : (t : List ℕ) (a : Asked) → wholeAsked t ≡ accepted a → Asks a
+unfolding wholeAsked
+whole-asks t a e =
+    let x = after (readPlanOf t) (λ p. accepted (wholePlan p)) a e in
+    let f = accepted-fits device 1 t (x .0) (x .1) .0 in
+    let is : wholePlan (x .0) ≡ a = cc (x .2) in
+    subst Asks is (record { fits = f; mark = some-mark (x .0 .legs) (f .fewLegs) })
+
+mark-asks : (t : List ℕ) (a : Asked) → markAsked t ≡ accepted a → Asks a
+unfolding markAsked markedAsked
+mark-asks t a e =
+    let x = after (fieldIn markField 0 t) _ a e in
+    let k : ℕ = x .0 .value .magnitude in
+    let y = after (readPlanOf (x .0 .rest)) (markOf k) a (x .2) in
+    has k (y .0) (accepted-fits device 1 (x .0 .rest) (y .0) (y .1) .0) (ltb k (marks (y .0 .legs))) refl (y .2)
+  where
+    has : (k : ℕ) (p : Planned) → Fits device p → (b : Bool) → ltb k (marks (p .legs)) ≡ b
+        → cond b (accepted (ofMark k p)) (refused 6 nowhere) ≡ accepted a → Asks a
+    has k p f true q e = let is : ofMark k p ≡ a = cc e in subst Asks is (record { fits = f; mark = ltb-true k (marks (p .legs)) q })
+    has k p f false q e = absurd (true≢false (cc))
+
+-- ---- any question
+
+pub question-fits : (t : List ℕ) (a : Asked) → questionOf t ≡ accepted a → Asks a
+unfolding questionOf
+question-fits t a e = by (begins patternKey t) (begins markKey t) e
+  where
+    by : (b c : Bool) → cond b (patternAsked (drop (length patternKey) t)) (cond c (markAsked t) (wholeAsked t)) ≡ accepted a → Asks a
+    by true c e = pattern-asks (drop (length patternKey) t) a e
+    by false true e = mark-asks t a e
+    by false false e = whole-asks t a e
+
+-- ---- its answer
+
+module _ (t : List ℕ) (q : Question) (Q : QuestionIs (questionOf t) q) (ok : accepted tt ≡ outcomeTold (q .judged)) where
+  asked : (a : Asked) × (questionOf t ≡ accepted a)
+  asked = accepted-gives (questionOf t) (λ a. tt) tt (ok ∙ Q .judged)
+
+  asks : Asks (asked .0)
+  asks = question-fits t (asked .0) (asked .1)
+
+  in-places : q .plan ≡ placed mostLegs (asked .0 .plan)
+  in-places = Q .plan ∙ ap (λ told. heldOf mostLegs (then told (λ a. accepted (a .plan)))) (asked .1)
+
+  -- its plan is within the rules
+  pub answer-ruled : planRuled device (q .plan) ≡ true
+  answer-ruled = ap (planRuled device) in-places ∙ held-ruled (asked .0 .plan) (asks .fits)
+
+  -- and has its mark
+  pub answer-mark : q .mark < marks (legsOf (q .plan))
+  answer-mark =
+      let m : q .mark ≡ asked .0 .mark = Q .mark ∙ ap markIn (asked .1) in
+      let l : marks (legsOf (q .plan)) ≡ marks (asked .0 .plan .legs) =
+      ap (λ p. marks (legsOf p)) in-places ∙ ap marks (held-legs (asked .0 .plan) (asks .fits)) in
+      omega (arith, asks .mark)
