@@ -235,11 +235,8 @@ cuts_each() {
 }
 
 mkdir -p "$cuts_out"
-# an archive that is older than a file of crates/ would be a test of what was there before
-if [ ! -f "$cuts_archive" ] || [ -n "$(find crates -newer "$cuts_archive" -type f | head -n 1)" ]; then
-    rm -f "$cuts_archive"
-    cuts_build 'the library for this machine' tools/host-archive
-fi
+type archive_ready >/dev/null 2>&1 || . "$root/tests/archive.sh"
+archive_ready
 if [ -f "$cuts_archive" ]; then
     cuts_every
     printf '%s\n' mark=0,0 turn=1,2,3 mark=1,1 swap=1,2 mark=2,2 swap=1,3 swap=2,4 mark=3,8 swap=1,3 mark=4,7 end=5 >"$cuts_out/output"

@@ -155,11 +155,8 @@ header_edits() {
 }
 
 mkdir -p "$header_out"
-# an archive that is older than a file of crates/ would be a test of what was there before
-if [ ! -f "$header_archive" ] || [ -n "$(find crates -newer "$header_archive" -type f | head -n 1)" ]; then
-    rm -f "$header_archive"
-    tools/host-archive >"$header_out/log" 2>&1 || { cat "$header_out/log"; fail 'header: the library for this machine does not build'; }
-fi
+type archive_ready >/dev/null 2>&1 || . "$root/tests/archive.sh"
+archive_ready
 header_code
 header_holds declarations 'the declarations are those of the functions, by name, order and type'
 header_holds numbers 'the numbers at each call are those of demands.One.DemandOne in their order, the constants those of the code'

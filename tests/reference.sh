@@ -130,11 +130,8 @@ reference_examples() {
 }
 
 mkdir -p "$reference_out"
-# an archive that is older than a file of crates/ would be a test of what was there before
-if [ ! -f "$reference_archive" ] || [ -n "$(find crates -newer "$reference_archive" -type f | head -n 1)" ]; then
-    rm -f "$reference_archive"
-    reference_build 'the library for this machine' tools/host-archive
-fi
+type archive_ready >/dev/null 2>&1 || . "$root/tests/archive.sh"
+archive_ready
 [ ! -f "$reference_archive" ] || reference_symbols
 if [ -f "$reference_archive" ] &&
     reference_rust 'the reference' --crate-type rlib --crate-name reference -o "$reference_out/libreference.rlib" tests/reference/reference.rs &&
