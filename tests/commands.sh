@@ -2,6 +2,8 @@
 # of a long print. What the printer prints is in printer.sh, what is drawn in drawings.sh, how programs are built in building.sh.
 commands_out=$(mktemp -d)
 T=$commands_out
+# both programs up to date, so that no row tells of a build
+for command in orders show; do bin/$command --quiet plans/two-ports >/dev/null || fail "commands: bin/$command does not run"; done
 
 # the files of the table
 commands_file() { printf "$2" >"$T/$1"; }

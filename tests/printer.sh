@@ -1,5 +1,6 @@
 # What the order printer prints: bin/orders on plan files, good and bad. How it ends and what it says in words is in commands.sh.
 printer_out=$(mktemp -d)
+bin/orders --quiet plans/two-ports >/dev/null || fail 'orders: it does not run'
 
 # printed LABEL: what bin/orders prints for the plan in $printer_out/plan, nothing on standard error, is what stands in $printer_out/expected
 printed() {
