@@ -1,3 +1,4 @@
 pub mod Places
 pub mod Rehearsals
+pub mod Ruled
 pub mod Spelled
