@@ -23,6 +23,16 @@ use Rattle.words.specs.declared.Outcome.the-variants.{Accepted}
 use Rattle.asking.specs.declared.entries.Held.{Held}
 use Rattle.asking.specs.declared.entries.Entries.{Entries}
 
+-- ---- an entry as a byte
+
+-- up to 255 it is the byte
+pub small-entry : (n : ℕ) → n ≤ 255 → n ≡ entryByte n
+small-entry n h = rw (le-leb n 255 h) refl
+
+-- above, it is held as 0
+pub large-entry : (n : ℕ) → 255 < n → 0 ≡ entryByte n
+large-entry n h = rw (lt-leb n 255 h) refl
+
 -- ---- in the array
 
 -- one entry more is one more

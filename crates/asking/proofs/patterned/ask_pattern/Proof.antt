@@ -31,7 +31,7 @@ returns c =
     let i = c .before .before in
     let k = i .before .before in
     subst (λ told. QuestionIs told (c .refused2 .result))
-    (ap refusalOf (c .before .nowhere2 .ensures) ∙ goes-on _ _ (at-newline k) (i .if1 .taken)) (c .refused2 .ensures)
+    (ap refusalOf (c .before .nowhere2 .ensures) ∙ goes-on _ _ (at-newline k) (omega (arith, i .if1 .taken))) (c .refused2 .ensures)
 
 slice-aggregate-ask-entries : tie.Need-slice-aggregate-ask-entries
 slice-aggregate-ask-entries c =

@@ -1,7 +1,7 @@
 -- `showing::marks::place_of`: the marks of the legs before `leg` and `step` are the mark's number; each turn leaves a leg behind.
 -- Assumes nothing.
 use mathlib.Core.Path.{_≡_, ap}
-use Prim.Native.Nat.{_+_, _<_}
+use Prim.Native.Nat.{_+_, _-_, _<_}
 use native.Mathlib.Omega.{arith}
 use lib.ListN.{length, take}
 use borrow.Author.Needs.{needs}
@@ -17,7 +17,7 @@ abbrev Inv-loop : tie.InvT-loop
 Inv-loop plan k leg₀ step₀ leg step = (leg < length (legsOf plan)) × (marks (take leg (legsOf plan)) + step ≡ k)
 
 abbrev μ-loop : tie.MeasureT-loop
-μ-loop plan k leg₀ step₀ leg step = step
+μ-loop plan k leg₀ step₀ leg step = length (legsOf plan) - leg
 
 loop-holds : tie.Need-loop-holds Inv-loop μ-loop
 loop-holds c = some-leg (legsOf (c .args .plan)) (c .args .k) (c .pre .1)
@@ -42,7 +42,7 @@ add-leg c =
     search needs
 
 loop-less : tie.Need-loop-less Inv-loop μ-loop
-loop-less c = omega (arith, c .if1 .left)
+loop-less c = omega (arith, c .before .before .loop .inv .0)
 
 loop-again : tie.Need-loop-again Inv-loop μ-loop
 loop-again c =
