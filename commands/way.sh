@@ -149,7 +149,8 @@ sources() {
     ) 2>/dev/null | sha256sum
 }
 
-up_to_date() { [ -x "$program" ] && [ -f "$built" ] && [ "$(cat "$built")" = "$sum" ]; }
+# what was built: the sources, and the program that was made from them
+up_to_date() { [ -x "$program" ] && [ -f "$built" ] && [ "$(cat "$built")" = "$sum $(sha256sum <"$program")" ]; }
 
 # follow_build: what the prover says, kept in a file and told crate by crate
 follow_build() {
@@ -187,6 +188,8 @@ build() {
     if ! up_to_date; then
         total=$(echo "$crates" | wc -l)
         [ "$quiet" = yes ] || complain "proving and building, once: $total crates, some minutes"
+        # a program that is not the one that was built is no one's: the kit would take it for its own
+        [ ! -f "$built" ] || [ ! -f "$program" ] || grep -qF "$(sha256sum <"$program")" "$built" || rm -f "$program" "$root/target/stamp/$name"
         workplace
         mkfifo "$work/said"
         (cd "$root" && exec setsid "$rt" check "$name") </dev/null >"$work/said" 2>&1 9>&- &
@@ -200,7 +203,7 @@ build() {
             cat "$work/log" >&2
             give_up "$not_built" "the program could not be built"
         fi
-        echo "$sum" >"$built.new" && mv "$built.new" "$built"
+        echo "$sum $(sha256sum <"$program")" >"$built.new" && mv "$built.new" "$built"
         [ "$quiet" = yes ] || complain 'built'
     fi
     exec 9>&-

@@ -70,9 +70,9 @@ echo '// More.' >>"$tree/crates/words/src/lib.rt"
 built 'an edit, and another made while it is built' 0 4 "$whole"
 built 'the one that was made meanwhile is seen' 0 5 "$whole"
 built 'and then no more' 0 5 ''
-rm "$tree/target/bin/orders"
+echo '# Another program.' >>"$tree/target/bin/orders"
 building_words=--quiet
-built 'with --quiet it builds without a word' 0 6 ''
+built 'a program that is not the one that was built is built again, with --quiet without a word' 0 6 ''
 building_words=''
 
 # a build that fails: the prover's words, status 1, and it is tried again

@@ -52,7 +52,7 @@ for ports in 2 3 4 5; do
         awk -v step="$([ "$ports" -lt 5 ] && echo 1 || echo 6)" '
             NF == 2 { rank[NR] = $1; pattern[NR] = $2; next }
             { pattern[NR] = $1 }
-            END { for (i = 1; i < NR; i += step) print rank[i], pattern[i], NR > 2 ? pattern[i + 1] : "-" }' >"$drawings_out/list"
+            END { for (i = 1; i < NR; i += step) print rank[i], pattern[i], (NR > 2 ? pattern[i + 1] : "-") }' >"$drawings_out/list"
     while read -r rank pattern next; do
         drawn "rank $rank of $ports" "$pattern" "$next" --ports "$ports" --rank "$rank"
         drawn "pattern $pattern" "$pattern" "$next" --pattern "$pattern"
@@ -63,7 +63,7 @@ counted 'ranks and patterns' 40
 
 # ---- marks of plans: within a leg, at its end and at the plan's, forward and backward, up to 20 ports
 for plan in plans/example plans/sample-20 plans/two-ports; do
-    met "$plan" | awk '{ mark[NR] = $1; pattern[NR] = $3 } END { for (i = 1; i <= NR; i++) print mark[i], pattern[i], i < NR ? pattern[i + 1] : "-" }' >"$drawings_out/list"
+    met "$plan" | awk '{ mark[NR] = $1; pattern[NR] = $3 } END { for (i = 1; i <= NR; i++) print mark[i], pattern[i], (i < NR ? pattern[i + 1] : "-") }' >"$drawings_out/list"
     while read -r mark pattern next; do
         drawn "mark $mark of $plan" "$pattern" "$next" --mark "$mark" "$plan"
     done <"$drawings_out/list"
@@ -124,12 +124,21 @@ if grep -qF 'a&amp;b&lt;c&gt;\n&quot;d</title>' "$drawings_out/picture" && [ "$(
 else
     fail 'drawings: a name with the signs of a picture breaks it'
 fi
-# shown COMMAND: what the command prints stands on the planners' page below it, as a block
+# shown COMMAND: what the command prints stands on the planners' page, as a block
 shown() {
-    eval "$1" >"$drawings_out/text"
-    sed -n "/^    $2\$/,/^[^ ]/p" docs/PLANS.md | sed -n '1d; s/^    //p; /^$/p' | sed -e '1{/^$/d}' | awk '{ line[NR] = $0 } END { n = NR; while (line[n] == "") n--; for (i = 1; i <= n; i++) print line[i] }' >"$drawings_out/page"
-    if cmp "$drawings_out/text" "$drawings_out/page"; then pass "drawings: docs/PLANS.md shows what $2 draws"; else fail "drawings: docs/PLANS.md does not show what $2 draws"; fi
+    $1 >"$drawings_out/text"
+    if awk '
+        NR == FNR { line[++n] = $0 == "" ? "" : "    " $0; next }
+        { page[++m] = $0 }
+        END {
+            for (i = 0; i + n <= m && !found; i++) { found = n > 0; for (k = 1; k <= n && found; k++) found = page[i + k] == line[k] }
+            exit !found
+        }' "$drawings_out/text" docs/PLANS.md; then
+        pass "drawings: docs/PLANS.md shows what $1 draws"
+    else
+        fail "drawings: docs/PLANS.md does not show what $1 draws"
+    fi
 }
-shown 'bin/show --pattern 5,4,2,3,1' 'bin\/show --pattern 5,4,2,3,1'
-shown 'bin/show plans/example' 'bin\/show plans\/example'
+shown 'bin/show --pattern 5,4,2,3,1'
+shown 'bin/show plans/example'
 rm -rf "$drawings_out"
