@@ -4,15 +4,15 @@
 use mathlib.Core.Path.{_≡_, refl, sym, ap, subst, _∙_}
 use mathlib.Core.Bool.{Bool, true, false, cond, true≢false}
 use mathlib.Core.List.{List, [], _∷_}
-use Prim.Native.Nat.{ℕ, suc, _≤_, _<_}
+use Prim.Native.Nat.{ℕ, _≤_, _<_}
 use native.Mathlib.Omega.{arith}
 use lib.Dec.{leb, ltb}
-use lib.ListN.{length, take, drop}
+use lib.ListN.{length, drop}
 use borrow.Author.Tests.{le-leb, lt-leb, ltb-true}
 use Rattle.listing.specs.Count.{count}
 use Rattle.listing.specs.Rank.{rank}
 use Rattle.listing.specs.Limits.{mostPorts, mostLegs}
-use Rattle.listing.proofs.Numbers.{either, below?, test}
+use Rattle.listing.proofs.Numbers.{either, below?}
 use Rattle.promise.specs.Plan.{Leg, marks}
 use Rattle.words.specs.Told.{Told, accepted, refused, nowhere, then}
 use Rattle.words.specs.Meaning.{outcomeTold}
@@ -22,14 +22,15 @@ use Rattle.pattern_check.proofs.Accepted.{accepted-pattern}
 use Rattle.patterns.specs.Calls.{rankOf}
 use Rattle.patterns.proofs.Accepted.{rank-fits}
 use Rattle.plan_lines.specs.Field.{fieldIn}
-use Rattle.plan_rules.specs.Planned.{Planned, EachFits, Fits, device}
+use Rattle.plan_rules.specs.Planned.{Planned, Fits, device}
 use Rattle.plan_rules.specs.Places.{placed, heldOf}
 use Rattle.plan_rules.specs.Rules.{legsOf, planRuled}
 use Rattle.plan_rules.proofs.Marks.{count-within}
 use Rattle.plans.specs.Calls.{readPlanOf}
 use Rattle.plans.proofs.Plans.{accepted-fits}
 use Rattle.asking.specs.Entries.{entriesOf}
-use Rattle.asking.specs.Questions.{patternKey, markKey, Asked, oneLine, patternLeg, ofPattern, entriesAsked, patternAsked, markField, ofMark, markOf, markedAsked, markAsked, wholePlan, wholeAsked, questionOf}
+use Rattle.asking.specs.Questions.{patternKey, markKey, Asked, oneLine, ofPattern, entriesAsked, patternAsked, questionOf}
+use Rattle.asking.specs.Questions.{markField, ofMark, markOf, markedAsked, markAsked, wholePlan, wholeAsked}
 use Rattle.asking.specs.Answers.{markIn, QuestionIs}
 use Rattle.asking.specs.declared.Question.{Question}
 use Rattle.asking.proofs.Ruled.{accepted-gives, held-ruled, held-legs}

@@ -1,12 +1,11 @@
 -- The entries of a text by its first comma: what stands before it is the first entry, and what stands after it the others (`pieces-cut`). What the reader may
 -- conclude of an entry with none after it (`last-entry`) and of one with others (`more-entries`).
 -- Assumes nothing.
-use mathlib.Core.Path.{_≡_, refl, sym, ap, subst, _∙_}
+use mathlib.Core.Path.{_≡_, refl, ap, _∙_}
 use mathlib.Core.Bool.{Bool, true, false, cond}
 use mathlib.Core.List.{List, [], _∷_}
 use mathlib.Core.Option.{Option, none, some, Option·map, bind}
 use Prim.Native.Nat.{ℕ, suc, _+_, _≤_, _<_}
-use native.Mathlib.Numerals.{add-one}
 use native.Mathlib.Omega.{arith}
 use lib.Dec.{eqb}
 use lib.ListN.{length, take, drop}
@@ -16,7 +15,6 @@ use Rattle.text_numbers.specs.Answers.{readIs}
 use Rattle.text_numbers.specs.declared.Read.{Read}
 use Rattle.text_numbers.specs.declared.Read.the-variants.{Number, Bad}
 use Rattle.text_keys.specs.Parts.{comma, later, firstOf}
-use Rattle.text_keys.proofs.Cuts.{to-the-end}
 use Rattle.asking.specs.Entries.{onFirst, pieces, eachNumber, entriesIn}
 use Rattle.asking.specs.Pieces.{entryIs, EntryWithin, lastOf, moreOf}
 
@@ -38,7 +36,8 @@ unfolding pieces firstOf
 pieces-cut [] = refl
 pieces-cut (x ∷ t) = by (pieces-cut t) (eqb x comma)
   where
-    by : pieces t ≡ piecesAt t (firstOf comma t) → (b : Bool) → cond b ([] ∷ pieces t) (onFirst x (pieces t)) ≡ piecesAt (x ∷ t) (cond b (some 0) (later (firstOf comma t)))
+    by : pieces t ≡ piecesAt t (firstOf comma t) → (b : Bool)
+        → cond b ([] ∷ pieces t) (onFirst x (pieces t)) ≡ piecesAt (x ∷ t) (cond b (some 0) (later (firstOf comma t)))
     by later-cut true = refl
     by later-cut false = ap (onFirst x) later-cut ∙ one-before x t (firstOf comma t)
 
@@ -63,7 +62,8 @@ module _ (most : ℕ) (s : List ℕ) where
       next : at + k + 1 ≡ at + suc k
       next = omega arith
 
-      by : (r : Read) → entryIs most s (moreOf (at + k + 1) r) ≡ bind (readIs r) (λ n. Option·map (λ ns. n ∷ ns) (eachNumber most (pieces (drop (at + k + 1) s))))
+      by : (r : Read) → entryIs most s (moreOf (at + k + 1) r)
+          ≡ bind (readIs r) (λ n. Option·map (λ ns. n ∷ ns) (eachNumber most (pieces (drop (at + k + 1) s))))
       by (Number n) = refl
       by Bad = refl
 

@@ -1,20 +1,18 @@
 -- The entries in an array: none, one more where there is a place, one more where there is none; and what all of them are told to be.
 -- At the end the loop over the entries of a text: those read so far, and those that the text from `at` on is.
 -- Assumes nothing.
-use mathlib.Core.Path.{_≡_, refl, sym, ap, subst, _∙_}
-use mathlib.Core.Bool.{Bool, true, false, true≢false}
+use mathlib.Core.Path.{_≡_, refl, sym, ap, _∙_}
+use mathlib.Core.Bool.{true, false, true≢false}
 use mathlib.Core.List.{List, [], _∷_, _++_, map, map-append}
 use mathlib.Core.Option.{Option, none, some, Option·map}
-use Prim.Native.Nat.{ℕ, suc, _+_, _≤_, _<_}
-use native.Mathlib.Numerals.{add-one}
+use Prim.Native.Nat.{ℕ, _+_, _≤_, _<_}
 use native.Mathlib.Omega.{arith}
-use lib.Dec.{leb, ltb}
 use borrow.Author.Tests.{lt-ltb, le-ltb, le-leb, lt-leb}
 use lib.ListN.{length, drop, set, replicate, length-append, length-map}
 use lib.Seq.{append-snoc}
 use Rattle.listing.proofs.Numbers.{either, below?}
 use Rattle.listing.specs.Limits.{mostPorts, largest64}
-use Rattle.words.specs.Told.{Told, accepted, refused, nowhere}
+use Rattle.words.specs.Told.{refused, nowhere}
 use Rattle.words.specs.Padded.{padded}
 use Rattle.words.proofs.Padded.{padded-set}
 use Rattle.asking.specs.Entries.{entriesIn, entryByte, fewEntries, entriesOf}

@@ -1,8 +1,8 @@
 -- What a line of entries is concluded to ask: by its newline, by its entries, and by the rank of the pattern that they are.
 -- Assumes nothing.
-use mathlib.Core.Path.{_≡_, refl, sym, ap, subst, _∙_}
+use mathlib.Core.Path.{_≡_, sym, ap, _∙_}
 use mathlib.Core.Bool.{Bool, true, false, cond}
-use mathlib.Core.List.{List, [], _∷_, map}
+use mathlib.Core.List.{List, _∷_}
 use mathlib.Core.Option.{Option, none, some}
 use Prim.Native.Nat.{ℕ, suc, _+_, _≤_, _<_}
 use native.Mathlib.Omega.{arith}
@@ -14,7 +14,7 @@ use mir.Val.{toZ, ofZ}
 use borrow.Author.Tests.{le-leb, lt-leb}
 use Rattle.listing.proofs.Numbers.{either, below?}
 use Rattle.listing.specs.Limits.{mostPorts, mostLegs, largest64}
-use Rattle.words.specs.Told.{Told, Spot, accepted, refused, nowhere, then, need}
+use Rattle.words.specs.Told.{Spot, accepted, refused, nowhere, then, need}
 use Rattle.words.specs.Meaning.{outcomeTold}
 use Rattle.words.specs.Padded.{padded}
 use Rattle.words.proofs.Padded.{padded-room, padded-front}
@@ -27,7 +27,7 @@ use Rattle.plan_rules.specs.declared.Plan.{Plan}
 use Rattle.patterns.specs.Calls.{rankOf}
 use Rattle.asking.specs.Entries.{entriesIn, entryByte, fewEntries, entriesOf}
 use Rattle.asking.specs.Pieces.{givenIn, EntriesIs}
-use Rattle.asking.specs.Questions.{alone, oneLine, patternLeg, ofPattern, entriesAsked, patternAsked}
+use Rattle.asking.specs.Questions.{oneLine, patternLeg, ofPattern, entriesAsked, patternAsked}
 use Rattle.asking.specs.declared.entries.Entries.{Entries}
 use Rattle.asking.proofs.Ruled.{refused-on, accepted-gives}
 

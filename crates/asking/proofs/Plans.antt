@@ -1,6 +1,6 @@
 -- What a text that is a plan, or begins with the line of a mark, is concluded to ask.
 -- Assumes nothing.
-use mathlib.Core.Path.{_≡_, refl, sym, ap, subst, _∙_}
+use mathlib.Core.Path.{_≡_, refl, ap, _∙_}
 use mathlib.Core.Bool.{true, false}
 use mathlib.Core.List.{List}
 use Prim.Native.Nat.{ℕ, _≤_, _<_}
@@ -9,7 +9,7 @@ use lib.ListN.{take}
 use borrow.Author.Tests.{lt-ltb, le-ltb}
 use Rattle.listing.specs.Limits.{mostLegs}
 use Rattle.promise.specs.Plan.{marks}
-use Rattle.words.specs.Told.{Told, Spot, accepted, refused, nowhere, then}
+use Rattle.words.specs.Told.{Spot, accepted, refused, nowhere}
 use Rattle.words.specs.declared.Signed.{Signed}
 use Rattle.words.specs.declared.Outcome.the-variants.{Accepted}
 use Rattle.plan_lines.specs.Field.{Got, fieldIn}
@@ -60,7 +60,8 @@ module _ (t : List ℕ) (plan : Plan) (ok : accepted tt ≡ judged (readPlanOf t
   whole-read = rw (is-plan .1) (record { judged = refl; plan = in-places; whole = refl; mark = refl })
 
   -- a mark that it has
-  pub mark-read : (k : ℕ) → k < marks (take (plan .legs) (legsOf plan)) → QuestionIs (markedAsked k t) (record { judged = Accepted; plan = plan; whole = false; mark = k })
+  pub mark-read : (k : ℕ) → k < marks (take (plan .legs) (legsOf plan))
+      → QuestionIs (markedAsked k t) (record { judged = Accepted; plan = plan; whole = false; mark = k })
   unfolding markedAsked
   mark-read k h =
       let below : k < marks (is-plan .0 .legs) = omega (arith, its-marks) in

@@ -9,12 +9,12 @@ use lib.IntN.{ℤ, pos}
 use lib.ListN.{length, take, length-map}
 use lib.Seq.{take-length}
 use Rattle.listing.specs.Limits.{mostLegs}
-use Rattle.promise.specs.Plan.{Leg, marks}
+use Rattle.promise.specs.Plan.{marks}
 use Rattle.words.specs.Told.{Told, Spot, accepted, refused, then}
 use Rattle.words.specs.Signs.{withSign}
 use Rattle.words.proofs.Padded.{padded-beyond}
 use Rattle.plan_rules.specs.Planned.{Planned, runOf, Fits, device}
-use Rattle.plan_rules.specs.Places.{placed, plannedOf}
+use Rattle.plan_rules.specs.Places.{placed}
 use Rattle.plan_rules.specs.Rules.{legsOf, planRuled}
 use Rattle.plan_rules.proofs.Held.{held-planned, held-places}
 use Rattle.plan_rules.proofs.Rules.{tells-ruled}

@@ -1,5 +1,5 @@
--- A pattern as one text: its entries in order of the jacks, with commas between them. What a text is read as, and its refusals in their order: 8 where an entry
--- is no number as plans have them, then 1 where there are more entries than the most ports.
+-- A pattern as one text: its entries in order of the jacks, with commas between them. What a text is read as, and its refusals in their order: 8 where an
+-- entry is no number as plans have them, then 1 where there are more entries than the most ports.
 -- Assumes nothing.
 use Prim.Native.Nat.{ℕ}
 use mathlib.Core.Bool.{cond}

@@ -1,5 +1,5 @@
--- What a text asks: one pattern (`pattern=` and its entries), one mark of a plan (`mark=` and its number, and then the plan's lines), or a whole plan. The first
--- key says which. Each is refused with the paper's numbers; the lines of a plan keep their own numbers from 1.
+-- What a text asks: one pattern (`pattern=` and its entries), one mark of a plan (`mark=` and its number, and then the plan's lines), or a whole plan. The
+-- first key says which. Each is refused with the paper's numbers; the lines of a plan keep their own numbers from 1.
 -- Assumes nothing.
 use Prim.Native.Nat.{ℕ}
 use mathlib.Core.Bool.{Bool, true, false, cond}

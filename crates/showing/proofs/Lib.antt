@@ -1,4 +1,5 @@
 pub mod Places
 pub mod Rehearsals
+pub mod Answered
 pub mod Ruled
 pub mod Spelled

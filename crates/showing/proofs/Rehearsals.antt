@@ -11,7 +11,7 @@ use Rattle.listing.specs.Listing.{at}
 use Rattle.listing.specs.Limits.{mostPorts, mostLegs}
 use Rattle.words.specs.Padded.{padded}
 use Rattle.words.specs.declared.Leg as words
-use Rattle.promise.specs.Plan.{Leg, legAt, stepped, rankAt, legOf, stepOf}
+use Rattle.promise.specs.Plan.{Leg, legAt, stepped, rankAt}
 use Rattle.promise.specs.Derangements.{derangements}
 use Rattle.plan_rules.specs.Planned.{LegFits, device}
 use Rattle.plan_rules.specs.Rules.{legIs, legsOf, Ruled, planRuled}

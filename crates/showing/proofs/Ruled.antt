@@ -1,6 +1,6 @@
 -- Of a plan within the rules, what is asked where its ports and its legs are shown; and a line that was written lies within its buffer.
 -- Assumes nothing.
-use mathlib.Core.Path.{_≡_, refl, sym, ap, subst, _∙_}
+use mathlib.Core.Path.{_≡_, refl, sym, ap, subst}
 use mathlib.Core.Bool.{Bool, true, false, cond, true≢false}
 use mathlib.Core.List.{List, []}
 use Prim.Native.Nat.{ℕ, _+_, _≤_, _<_}
@@ -62,7 +62,8 @@ pub written-within : (l : Line) (buf : List ℕ) (n : ℕ) → accepted n ≡ wr
 unfolding writeOf roomOf
 written-within l buf n e = by (fitting mostPorts l) e
   where
-    fit : (k : Line) (b : Bool) → leb (length (lineText k)) (length buf) ≡ b → accepted n ≡ cond b (accepted (length (lineText k))) (refused 2 nowhere) → n ≤ length buf
+    fit : (k : Line) (b : Bool) → leb (length (lineText k)) (length buf) ≡ b
+        → accepted n ≡ cond b (accepted (length (lineText k))) (refused 2 nowhere) → n ≤ length buf
     fit k true q e = let m : n ≡ length (lineText k) = cc in omega (arith, leb-true (length (lineText k)) (length buf) q)
     fit k false q e = absurd (true≢false (cc))
 

@@ -1,12 +1,11 @@
 -- `asking::ask` asks for the two keys, and reads the text as a plan where it begins with neither.
 -- Assumes nothing.
-use mathlib.Core.Path.{_≡_, sym, ap, subst, _∙_}
+use mathlib.Core.Path.{sym, subst, _∙_}
 use Prim.Native.Nat.{_≤_}
-use native.Mathlib.Omega.{arith}
 use lib.ListN.{length}
 use borrow.Author.Needs.{needs}
 use Rattle.text_keys.proofs.Keys.{key-room}
-use Rattle.asking.specs.Questions.{patternKey, markKey}
+use Rattle.asking.specs.Questions.{patternKey}
 use Rattle.asking.specs.Answers.{QuestionIs}
 use Rattle.asking.proofs.Keys.{pattern-key, mark-key, no-key}
 use Rattle.asking.proofs.ask.Statement.{statement}

@@ -1,7 +1,6 @@
 -- `show::put_legs` goes from leg to leg.
 -- Assumes nothing.
 use Prim.Native.Nat.{_-_, _≤_}
-use native.Mathlib.Omega.{arith}
 use borrow.Author.Needs.{needs}
 use Rattle.show.proofs.put_legs.Statement.{statement}
 use Rattle.show.proofs.put_legs.Tie as tie

@@ -1,7 +1,6 @@
 -- `show::put_line` writes a line into a buffer, where it lies, and then that much of the buffer.
 -- Assumes nothing.
 use mathlib.Core.Path.{sym, ap, _∙_}
-use native.Mathlib.Omega.{arith}
 use lib.Seq.{length-take-le}
 use borrow.Author.Needs.{needs}
 use Rattle.line_writer.specs.Answers.{writtenTold}

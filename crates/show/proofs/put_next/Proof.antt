@@ -1,7 +1,6 @@
 -- `show::put_next`: what a request writes lies within its buffer.
 -- Assumes nothing.
 use mathlib.Core.Path.{sym}
-use native.Mathlib.Omega.{arith}
 use lib.Seq.{length-take-le}
 use borrow.Author.Needs.{needs}
 use Rattle.campaign.proofs.Tells.{within-room}

@@ -1,6 +1,5 @@
 -- `asking::entries::counted`: what is held is all there is, unless there were more entries than places.
 -- Assumes nothing.
-use mathlib.Core.Path.{sym}
 use borrow.Author.Needs.{needs}
 use Rattle.asking.proofs.Held.{too-many, few-enough}
 use Rattle.asking.proofs.entries.counted.Statement.{statement}

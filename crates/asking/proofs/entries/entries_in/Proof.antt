@@ -1,6 +1,6 @@
 -- `asking::entries::entries_in`: the entries read so far are held, and with those that the text from `at` on is they are all. Each turn passes a comma.
 -- Assumes nothing.
-use mathlib.Core.Path.{_≡_, sym, ap, subst, _∙_}
+use mathlib.Core.Path.{sym, ap, subst, _∙_}
 use Prim.Native.Nat.{_-_, _≤_}
 use native.Mathlib.Omega.{arith}
 use lib.ListN.{length}

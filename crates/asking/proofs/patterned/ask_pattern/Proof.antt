@@ -43,7 +43,8 @@ returns-2 : tie.Need-returns-2
 returns-2 c =
     let n = c .before .before in
     subst (λ told. QuestionIs told (c .refused .result))
-    (ap refusalOf (c .before .nowhere .ensures) ∙ no-line _ (sym (ap foundIs (n .enum-told .given .1)) ∙ n .before .before .find .ensures)) (c .refused .ensures)
+    (ap refusalOf (c .before .nowhere .ensures) ∙ no-line _ (sym (ap foundIs (n .enum-told .given .1)) ∙ n .before .before .find .ensures))
+    (c .refused .ensures)
 
 returns-3 : tie.Need-returns-3
 returns-3 c =

@@ -5,7 +5,6 @@ use mathlib.Core.Bool.{cond}
 use lib.IntN.{pos}
 use borrow.Author.Tests.{le-leb, lt-leb}
 use native.Mathlib.Omega.{arith}
-use borrow.Author.Needs.{needs}
 use Rattle.asking.proofs.patterned.one_step.Statement.{statement}
 use Rattle.asking.proofs.patterned.one_step.Tie as tie
 

@@ -1,15 +1,12 @@
 -- `asking::planned::ask_mark` reads the line of the mark, as line 0, and the text after it as the plan.
 -- Assumes nothing.
-use mathlib.Core.Path.{_≡_, sym, ap, subst, _∙_}
+use mathlib.Core.Path.{sym, ap, subst, _∙_}
 use Prim.Native.Nat.{_≤_}
-use native.Mathlib.Omega.{arith}
 use lib.ListN.{length, drop}
 use borrow.Author.Needs.{needs}
-use Rattle.words.specs.Told.{accepted}
-use Rattle.plan_lines.specs.Field.{fieldIn}
 use Rattle.plan_lines.specs.Places.{lineTold, LineWithin}
 use Rattle.text_keys.proofs.Cuts.{to-the-end}
-use Rattle.asking.specs.Questions.{markField, markedAsked}
+use Rattle.asking.specs.Questions.{markedAsked}
 use Rattle.asking.specs.Answers.{QuestionIs}
 use Rattle.asking.proofs.Plans.{line-refused, line-read}
 use Rattle.asking.proofs.planned.ask_mark.Statement.{statement}

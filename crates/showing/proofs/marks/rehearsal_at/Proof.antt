@@ -1,6 +1,6 @@
 -- `showing::marks::rehearsal_at` finds the mark's leg and step, and puts the pattern of its rank on the panel.
 -- Assumes nothing.
-use mathlib.Core.Path.{_≡_, sym, ap, _∙_}
+use mathlib.Core.Path.{sym}
 use native.Mathlib.Omega.{arith}
 use lib.ListN.{length-take}
 use lib.Seq.{length-take-le}
