@@ -3,7 +3,8 @@
 #   name          the command's name, which is also its program's: crates/NAME
 #   what          what it reads, in a word
 #   asked         what is asked of that, for the words of a refusal (commands/words.awk)
-#   usage         a function: its help
+#   usage         a function: how it is called and what it does, the first part of its help
+#   own_options   a text: its own options, for the help
 #   own_option    a function: takes an option of its own from its arguments, sets `taken` to how many it took, or fails if it knows none such
 # and then calls, in this order: options "$@"; build; spool; run; finish.
 #
@@ -57,6 +58,20 @@ close_again() {
 
 # ---- the command line
 
+help() {
+    usage
+    cat <<HELP
+$own_options
+  --words     say in words on standard error what is going on, and why something is refused; without it, only where standard error is a terminal
+  --quiet     say nothing but what cannot be done
+  --version   print the version
+  --help      print this
+
+Status: $printed_all all printed, $was_refused refused, $unreadable it cannot be read, $unwritable the output cannot be written, \
+$pipe_gone the reader of the output went away, $bad_usage bad usage, $not_built the program cannot be built.
+HELP
+}
+
 file=-
 words=asked
 quiet=no
@@ -66,7 +81,7 @@ options() {
         taken=1
         case $1 in
             -h | --help)
-                usage 2>/dev/null || give_up "$unwritten" "$not_written"
+                help 2>/dev/null || give_up "$unwritten" "$not_written"
                 exit "$printed_all"
                 ;;
             --version)

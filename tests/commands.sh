@@ -72,6 +72,25 @@ for command in orders show; do
     done
 done
 
+# the planners' page has the statuses that commands/way.sh gives, and no other
+commands_page=$(sed -n '/^| status /,/^$/s/^| \([0-9]*\) | .*/\1/p' docs/PLANS.md | sort -n | tr '\n' ' ')
+commands_given=$(sed -n 's/^[a-z_]*=\([0-9][0-9]*\) *#.*/\1/p' commands/way.sh | sort -n | tr '\n' ' ')
+if [ "$commands_page" = "$commands_given" ] && [ "$commands_given" = '0 1 64 65 66 74 141 ' ]; then
+    pass 'commands: docs/PLANS.md has the statuses that are given'
+else
+    fail "commands: docs/PLANS.md has the statuses $commands_page, and $commands_given are given"
+fi
+# its script, as it stands there: on a good plan, and on one that is refused
+mkdir "$T/script"
+ln -s "$root/bin" "$T/script/bin"
+sed -n '/^    if bin\/orders/,/^    fi$/s/^    //p' docs/PLANS.md >"$T/script/run"
+commands_script() { (cd "$T/script" && cp "$1" plan && robot() { tail -n 1 "$1"; } && . ./run) 2>&1; }
+if [ "$(commands_script "$root/plans/example")" = end=5 ] && [ "$(commands_script "$T/run-too-long")" = 'the plan is refused: refused=10 at=4' ]; then
+    pass 'commands: the script of docs/PLANS.md does what it says'
+else
+    fail 'commands: the script of docs/PLANS.md does something else'
+fi
+
 # ---- the progress of a long print: a line for each tenth, rising, where standard error is no terminal; one line written over on a terminal; none beside the
 # orders themselves
 bin/orders --words plans/full-circuit-10 2>"$T/err" >"$T/out"
