@@ -25,10 +25,10 @@ use Rattle.plan_rules.specs.Planned.{runOf}
 use Rattle.plan_rules.specs.Places.{placed}
 use Rattle.plan_rules.specs.declared.Plan.{Plan}
 use Rattle.patterns.specs.Calls.{rankOf}
-use Rattle.asking.specs.Entries.{entriesIn, entryByte, fewEntries, entriesOf}
-use Rattle.asking.specs.Pieces.{givenIn, EntriesIs}
+use Rattle.entries.specs.Entries.{entriesIn, entryByte, fewEntries, entriesOf}
+use Rattle.entries.specs.Pieces.{givenIn, EntriesIs}
 use Rattle.asking.specs.Questions.{oneLine, patternLeg, ofPattern, entriesAsked, patternAsked}
-use Rattle.asking.specs.declared.entries.Entries.{Entries}
+use Rattle.entries.specs.declared.Entries.{Entries}
 use Rattle.asking.proofs.Ruled.{refused-on, accepted-gives}
 
 -- ---- the newline

@@ -1,4 +1,2 @@
-pub mod Entries
-pub mod Pieces
 pub mod Questions
 pub mod Answers

@@ -1,7 +1,7 @@
 // A pattern asked for: one line of entries, and the plan of one leg that starts there.
 use crate::Question;
-use crate::entries::entries_in;
 use crate::planned::refused;
+use entries::entries_in;
 use patterns::ranking::rank;
 use plan_rules::Plan;
 use text_keys::Found;

@@ -1,9 +1,9 @@
--- `asking::entries::counted`: what is held is all there is, unless there were more entries than places.
+-- `entries::counted`: what is held is all there is, unless there were more entries than places.
 -- Assumes nothing.
 use borrow.Author.Needs.{needs}
-use Rattle.asking.proofs.Held.{too-many, few-enough}
-use Rattle.asking.proofs.entries.counted.Statement.{statement}
-use Rattle.asking.proofs.entries.counted.Tie as tie
+use Rattle.entries.proofs.Places.{too-many, few-enough}
+use Rattle.entries.proofs.counted.Statement.{statement}
+use Rattle.entries.proofs.counted.Tie as tie
 
 returns : tie.Need-returns
 returns c ns H = too-many ns _ H (c .before .if1 .taken) _ (c .refused .ensures)

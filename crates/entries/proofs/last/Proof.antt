@@ -1,10 +1,10 @@
--- `asking::entries::last` tells what was read.
+-- `entries::last` tells what was read.
 -- Assumes nothing.
 use mathlib.Core.Path.{sym, ap}
 use borrow.Author.Needs.{needs}
-use Rattle.asking.specs.Pieces.{lastOf}
-use Rattle.asking.proofs.entries.last.Statement.{statement}
-use Rattle.asking.proofs.entries.last.Tie as tie
+use Rattle.entries.specs.Pieces.{lastOf}
+use Rattle.entries.proofs.last.Statement.{statement}
+use Rattle.entries.proofs.last.Tie as tie
 
 returns-2 : tie.Need-returns-2
 returns-2 c = sym (ap lastOf (c .before .found .given .1))

@@ -1,10 +1,10 @@
--- `asking::entries::more` tells what was read, with the place after it.
+-- `entries::more` tells what was read, with the place after it.
 -- Assumes nothing.
 use mathlib.Core.Path.{sym, ap}
 use borrow.Author.Needs.{needs}
-use Rattle.asking.specs.Pieces.{moreOf}
-use Rattle.asking.proofs.entries.more.Statement.{statement}
-use Rattle.asking.proofs.entries.more.Tie as tie
+use Rattle.entries.specs.Pieces.{moreOf}
+use Rattle.entries.proofs.more.Statement.{statement}
+use Rattle.entries.proofs.more.Tie as tie
 
 returns-2 : tie.Need-returns-2
 returns-2 c = sym (ap (moreOf _) (c .before .found .given .1))

@@ -1,10 +1,10 @@
--- `asking::entries::refused` tells the refusal at no place, with no entries.
+-- `entries::refused` tells the refusal at no place, with no entries.
 -- Assumes nothing.
 use mathlib.Core.Path.{refl, ap}
 use borrow.Author.Needs.{needs}
 use Rattle.words.specs.Meaning.{refusalOf}
-use Rattle.asking.proofs.entries.refused.Statement.{statement}
-use Rattle.asking.proofs.entries.refused.Tie as tie
+use Rattle.entries.proofs.refused.Statement.{statement}
+use Rattle.entries.proofs.refused.Tie as tie
 
 returns : tie.Need-returns
 returns c = record { judged = ap refusalOf (c .nowhere .ensures); len = refl; bytes = refl }

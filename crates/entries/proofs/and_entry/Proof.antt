@@ -1,10 +1,10 @@
--- `asking::entries::and_entry`: the entry goes into the first free place, and where there is none, that there are more is noted.
+-- `entries::and_entry`: the entry goes into the first free place, and where there is none, that there are more is noted.
 -- Assumes nothing.
 use native.Mathlib.Omega.{arith}
 use borrow.Author.Needs.{needs}
-use Rattle.asking.proofs.Held.{held-more, held-over}
-use Rattle.asking.proofs.entries.and_entry.Statement.{statement}
-use Rattle.asking.proofs.entries.and_entry.Tie as tie
+use Rattle.entries.proofs.Places.{held-more, held-over}
+use Rattle.entries.proofs.and_entry.Statement.{statement}
+use Rattle.entries.proofs.and_entry.Tie as tie
 
 returns : tie.Need-returns
 returns c ns H = held-more ns _ H _ _ (c .entry-byte .ensures) (c .before .if1 .taken)
