@@ -28,12 +28,13 @@ use Rattle.plan_rules.specs.Rules.{legsOf, planRuled}
 use Rattle.plan_rules.proofs.Marks.{count-within}
 use Rattle.plans.specs.Calls.{readPlanOf}
 use Rattle.plans.proofs.Plans.{accepted-fits}
-use Rattle.entries.specs.Entries.{entriesOf}
+use Rattle.text_entries.specs.Entries.{entriesOf}
 use Rattle.asking.specs.Questions.{patternKey, markKey, Asked, oneLine, ofPattern, entriesAsked, patternAsked, questionOf}
 use Rattle.asking.specs.Questions.{markField, ofMark, markOf, markedAsked, markAsked, wholePlan, wholeAsked}
 use Rattle.asking.specs.Answers.{markIn, QuestionIs}
 use Rattle.asking.specs.declared.Question.{Question}
-use Rattle.asking.proofs.Ruled.{accepted-gives, held-ruled, held-legs}
+use Rattle.plan_rules.proofs.Within.{held-ruled}
+use Rattle.asking.proofs.Ruled.{accepted-gives, held-legs}
 
 -- what an accepted question is: a plan that fits, and a mark of it
 pub record Asks (a : Asked) : Type 0 where

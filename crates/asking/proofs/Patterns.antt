@@ -25,10 +25,10 @@ use Rattle.plan_rules.specs.Planned.{runOf}
 use Rattle.plan_rules.specs.Places.{placed}
 use Rattle.plan_rules.specs.declared.Plan.{Plan}
 use Rattle.patterns.specs.Calls.{rankOf}
-use Rattle.entries.specs.Entries.{entriesIn, entryByte, fewEntries, entriesOf}
-use Rattle.entries.specs.Pieces.{givenIn, EntriesIs}
+use Rattle.text_entries.specs.Entries.{entriesIn, entryByte, fewEntries, entriesOf}
+use Rattle.text_entries.specs.Pieces.{givenIn, EntriesIs}
 use Rattle.asking.specs.Questions.{oneLine, patternLeg, ofPattern, entriesAsked, patternAsked}
-use Rattle.entries.specs.declared.Entries.{Entries}
+use Rattle.text_entries.specs.declared.Entries.{Entries}
 use Rattle.asking.proofs.Ruled.{refused-on, accepted-gives}
 
 -- ---- the newline

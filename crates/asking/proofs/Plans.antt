@@ -21,7 +21,8 @@ use Rattle.plans.specs.Calls.{readPlanOf}
 use Rattle.plans.proofs.Plans.{accepted-fits}
 use Rattle.asking.specs.Questions.{markField, markOf, markedAsked, markAsked, wholePlan, wholeAsked}
 use Rattle.asking.specs.Answers.{QuestionIs}
-use Rattle.asking.proofs.Ruled.{judged, refused-on, accepted-gives, held-ruled, held-marks}
+use Rattle.plan_rules.proofs.Within.{held-ruled}
+use Rattle.asking.proofs.Ruled.{judged, refused-on, accepted-gives, held-marks}
 
 -- ---- a plan that was refused
 

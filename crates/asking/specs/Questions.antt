@@ -14,7 +14,7 @@ use Rattle.patterns.specs.Calls.{rankOf}
 use Rattle.plan_lines.specs.Field.{Field, fieldIn, unsigned}
 use Rattle.plan_rules.specs.Planned.{Planned}
 use Rattle.plans.specs.Calls.{readPlanOf}
-use Rattle.entries.specs.Entries.{entriesOf}
+use Rattle.text_entries.specs.Entries.{entriesOf}
 
 -- the keys, each with its `=`: `pattern=`, `mark=`
 abbrev pub patternKey : List ℕ

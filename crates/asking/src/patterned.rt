@@ -1,9 +1,9 @@
 // A pattern asked for: one line of entries, and the plan of one leg that starts there.
 use crate::Question;
 use crate::planned::refused;
-use entries::entries_in;
 use patterns::ranking::rank;
 use plan_rules::Plan;
+use text_entries::entries_in;
 use text_keys::Found;
 use text_keys::find;
 use words::Numbered;

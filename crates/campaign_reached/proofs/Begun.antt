@@ -1,13 +1,11 @@
 -- The state that an accepted text leaves: its plan and unused places are within the rules (`begun-kept`), its campaign is that of the plan (`begun-setting`)
 -- and its moment the first one (`begun-moment`). The plan's family is lawful and the model accepts its legs.
 -- Assumes nothing.
-use mathlib.Core.Path.{_≡_, refl, sym, ap, subst, _∙_}
+use mathlib.Core.Path.{_≡_, sym, ap, subst, _∙_}
 use mathlib.Core.Bool.{true, false, and-eq-true-iff}
-use mathlib.Core.List.{List, map}
 use Prim.Native.Nat.{ℕ, _≤_, _<_}
 use native.Mathlib.Omega.{arith}
-use lib.IntN.{ℤ, pos}
-use lib.ListN.{length, length-map}
+use lib.ListN.{length}
 use Rattle.listing.specs.Count.{count}
 use Rattle.listing.specs.Ends.{home}
 use Rattle.listing.specs.Limits.{mostPorts, mostLegs}
@@ -17,20 +15,19 @@ use Rattle.promise.specs.Campaign.{Setting, first}
 use Rattle.promise.specs.Derangements.{derangements, onPorts}
 use Rattle.promise.proofs.Circuit.{circuit-accepts}
 use Rattle.promise.proofs.Derangements.{lawful-on, circuit-on}
-use Rattle.words.specs.Signs.{withSign}
 use Rattle.words.specs.Padded.{padded}
 use Rattle.words.proofs.Padded.{padded-room, padded-front, padded-beyond}
 use Rattle.plan_rules.specs.Places.{placed, heldOf, plannedOf}
 use Rattle.plan_rules.specs.declared.Plan.{Plan}
 use Rattle.plans.proofs.Plans.{accepted-fits}
 use Rattle.plan_rules.specs.Rules.{planRuled}
-use Rattle.plan_rules.proofs.Rules.{tells-ruled}
+use Rattle.plan_rules.proofs.Within.{held-ruled}
 use Rattle.campaign_state.specs.State.{width, settingOf, momentOf}
 use Rattle.campaign_state.specs.Fitness.{emptyFrom, placesFit}
 use Rattle.campaign_state.proofs.Places.{tells-empty}
 use Rattle.campaign.specs.Calls.{firstState}
-use Rattle.plan_rules.specs.Planned.{Planned, runOf, Fits, device}
-use Rattle.plan_rules.proofs.Held.{each-fits, held-planned, held-places}
+use Rattle.plan_rules.specs.Planned.{Planned, Fits, device}
+use Rattle.plan_rules.proofs.Held.{each-fits, held-planned}
 use Rattle.campaign_reached.specs.Turns.{AcceptedPlan, campaignOf, begun}
 use Rattle.campaign_reached.proofs.Kept.{Kept}
 
@@ -49,28 +46,6 @@ module _ (p : Planned) (f : Fits device p) where
   holds : plannedOf held ≡ p
   holds = held-planned device mostLegs p f
 
-  -- the starts and the runs that it holds
-  starts : List ℕ
-  starts = map (λ l. l .start) (p .legs)
-
-  runs : List ℤ
-  runs = map (λ l. withSign (runOf l)) (p .legs)
-
-  -- they are within the rules
-  ruled-places : planRuled device held ≡ true
-  unfolding placed starts runs
-  ruled-places =
-      let few : length (p .legs) ≤ mostLegs = f .manyLegs in
-      let a : length starts ≡ length (p .legs) = length-map (p .legs) (λ l. l .start) in
-      let b : length runs ≡ length (p .legs) = length-map (p .legs) (λ l. withSign (runOf l)) in
-      let places = held-places mostLegs p few in
-      tells-ruled device held (places .0) (places .1) .1 (record {
-        fits = subst (Fits device) (sym holds) f;
-        legs = few;
-        starts = λ i h k. padded-beyond mostLegs 0 starts i (omega arith);
-        runs = λ i h k. padded-beyond mostLegs (pos 0) runs i (omega arith);
-      })
-
   -- the panel is 0 beyond the ports
   empty-places : emptyFrom (held .ports) (firstState held .panel) ≡ true
   unfolding placed
@@ -80,7 +55,7 @@ module _ (p : Planned) (f : Fits device p) where
   -- so the first state is within the rules
   first-fit : placesFit (firstState held) ≡ true
   unfolding placesFit
-  first-fit = and-eq-true-iff (planRuled device held) (emptyFrom (held .ports) (firstState held .panel)) .1 (ruled-places, empty-places)
+  first-fit = and-eq-true-iff (planRuled device held) (emptyFrom (held .ports) (firstState held .panel)) .1 (held-ruled p f, empty-places)
 
   -- its campaign is the plan's
   first-setting : settingOf (firstState held) ≡ onPorts (p .ports) (p .legs) width

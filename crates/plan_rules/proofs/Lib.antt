@@ -1,3 +1,4 @@
 pub mod Held
 pub mod Marks
 pub mod Rules
+pub mod Within

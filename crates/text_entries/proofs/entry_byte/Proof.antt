@@ -1,10 +1,10 @@
--- `entries::entry_byte`: an entry up to 255 is a byte, any other is held as 0.
+-- `text_entries::entry_byte`: an entry up to 255 is a byte, any other is held as 0.
 -- Assumes nothing.
 use native.Mathlib.Omega.{arith}
 use borrow.Author.Needs.{needs}
-use Rattle.entries.proofs.Places.{small-entry, large-entry}
-use Rattle.entries.proofs.entry_byte.Statement.{statement}
-use Rattle.entries.proofs.entry_byte.Tie as tie
+use Rattle.text_entries.proofs.Places.{small-entry, large-entry}
+use Rattle.text_entries.proofs.entry_byte.Statement.{statement}
+use Rattle.text_entries.proofs.entry_byte.Tie as tie
 
 returns : tie.Need-returns
 returns c = small-entry (c .before .args .n) (omega (arith, c .if1 .taken))

@@ -15,11 +15,11 @@ use Rattle.listing.specs.Limits.{mostPorts, largest64}
 use Rattle.words.specs.Told.{refused, nowhere}
 use Rattle.words.specs.Padded.{padded}
 use Rattle.words.proofs.Padded.{padded-set}
-use Rattle.entries.specs.Entries.{entriesIn, entryByte, fewEntries, entriesOf}
-use Rattle.entries.specs.Pieces.{HeldIs, EntriesIs}
+use Rattle.text_entries.specs.Entries.{entriesIn, entryByte, fewEntries, entriesOf}
+use Rattle.text_entries.specs.Pieces.{HeldIs, EntriesIs}
 use Rattle.words.specs.declared.Outcome.the-variants.{Accepted}
-use Rattle.entries.specs.declared.Held.{Held}
-use Rattle.entries.specs.declared.Entries.{Entries}
+use Rattle.text_entries.specs.declared.Held.{Held}
+use Rattle.text_entries.specs.declared.Entries.{Entries}
 
 -- ---- an entry as a byte
 

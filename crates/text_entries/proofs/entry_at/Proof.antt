@@ -1,4 +1,4 @@
--- `entries::entry_at` finds the first comma from the place on and reads what stands before it; without a comma it reads all that is left.
+-- `text_entries::entry_at` finds the first comma from the place on and reads what stands before it; without a comma it reads all that is left.
 -- Assumes nothing.
 use mathlib.Core.Path.{_≡_, sym, ap, subst, _∙_}
 use mathlib.Core.Option.{some}
@@ -11,10 +11,10 @@ use Rattle.text_keys.specs.Parts.{comma, firstOf}
 use Rattle.text_keys.specs.Answers.{foundIs}
 use Rattle.text_keys.proofs.Cuts.{first-inside, to-the-end}
 use Rattle.text_numbers.specs.Decimal.{numberUpTo}
-use Rattle.entries.specs.Pieces.{entryIs, EntryWithin}
-use Rattle.entries.proofs.Cutting.{last-entry, more-entries, last-within, more-within}
-use Rattle.entries.proofs.entry_at.Statement.{statement}
-use Rattle.entries.proofs.entry_at.Tie as tie
+use Rattle.text_entries.specs.Pieces.{entryIs, EntryWithin}
+use Rattle.text_entries.proofs.Cutting.{last-entry, more-entries, last-within, more-within}
+use Rattle.text_entries.proofs.entry_at.Statement.{statement}
+use Rattle.text_entries.proofs.entry_at.Tie as tie
 
 -- the first comma stands k after the place
 at-comma : (c : tie.After-k)

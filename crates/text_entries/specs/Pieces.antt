@@ -12,11 +12,11 @@ use Rattle.words.specs.Meaning.{outcomeTold}
 use Rattle.words.specs.Padded.{padded}
 use Rattle.text_numbers.specs.declared.Read.{Read}
 use Rattle.text_numbers.specs.declared.Read.the-variants.{Number, Bad as Read-Bad}
-use Rattle.entries.specs.Entries.{entriesIn, entryByte}
-use Rattle.entries.specs.declared.Entries.{Entries}
-use Rattle.entries.specs.declared.Held.{Held}
-use Rattle.entries.specs.declared.Entry.{Entry}
-use Rattle.entries.specs.declared.Entry.the-variants.{Last, More, Bad}
+use Rattle.text_entries.specs.Entries.{entriesIn, entryByte}
+use Rattle.text_entries.specs.declared.Entries.{Entries}
+use Rattle.text_entries.specs.declared.Held.{Held}
+use Rattle.text_entries.specs.declared.Entry.{Entry}
+use Rattle.text_entries.specs.declared.Entry.the-variants.{Last, More, Bad}
 
 -- the bytes that are given; none on a refusal
 abbrev pub givenIn : Told (List ℕ) → List ℕ

@@ -1,9 +1,9 @@
--- `entries::counted`: what is held is all there is, unless there were more entries than places.
+-- `text_entries::counted`: what is held is all there is, unless there were more entries than places.
 -- Assumes nothing.
 use borrow.Author.Needs.{needs}
-use Rattle.entries.proofs.Places.{too-many, few-enough}
-use Rattle.entries.proofs.counted.Statement.{statement}
-use Rattle.entries.proofs.counted.Tie as tie
+use Rattle.text_entries.proofs.Places.{too-many, few-enough}
+use Rattle.text_entries.proofs.counted.Statement.{statement}
+use Rattle.text_entries.proofs.counted.Tie as tie
 
 returns : tie.Need-returns
 returns c ns H = too-many ns _ H (c .before .if1 .taken) _ (c .refused .ensures)

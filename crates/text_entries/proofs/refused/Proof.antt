@@ -1,10 +1,10 @@
--- `entries::refused` tells the refusal at no place, with no entries.
+-- `text_entries::refused` tells the refusal at no place, with no entries.
 -- Assumes nothing.
 use mathlib.Core.Path.{refl, ap}
 use borrow.Author.Needs.{needs}
 use Rattle.words.specs.Meaning.{refusalOf}
-use Rattle.entries.proofs.refused.Statement.{statement}
-use Rattle.entries.proofs.refused.Tie as tie
+use Rattle.text_entries.proofs.refused.Statement.{statement}
+use Rattle.text_entries.proofs.refused.Tie as tie
 
 returns : tie.Need-returns
 returns c = record { judged = ap refusalOf (c .nowhere .ensures); len = refl; bytes = refl }

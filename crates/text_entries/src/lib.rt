@@ -14,8 +14,8 @@ ghost use lib.ListN.{length, drop};
 ghost use Rattle.listing.specs.Limits.{largest64};
 ghost use Rattle.words.specs.Meaning.{numberOf};
 ghost use Rattle.words.specs.Told.{refused, nowhere};
-ghost use Rattle.entries.specs.Entries.{entriesIn, entryByte, fewEntries, entriesOf};
-ghost use Rattle.entries.specs.Pieces.{entryIs, EntryWithin, lastOf, moreOf, HeldIs, EntriesIs};
+ghost use Rattle.text_entries.specs.Entries.{entriesIn, entryByte, fewEntries, entriesOf};
+ghost use Rattle.text_entries.specs.Pieces.{entryIs, EntryWithin, lastOf, moreOf, HeldIs, EntriesIs};
 
 // The largest entry that a byte holds.
 const MOST_ENTRY: u64 = 255;

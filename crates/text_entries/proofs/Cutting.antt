@@ -15,8 +15,8 @@ use Rattle.text_numbers.specs.Answers.{readIs}
 use Rattle.text_numbers.specs.declared.Read.{Read}
 use Rattle.text_numbers.specs.declared.Read.the-variants.{Number, Bad}
 use Rattle.text_keys.specs.Parts.{comma, later, firstOf}
-use Rattle.entries.specs.Entries.{onFirst, pieces, eachNumber, entriesIn}
-use Rattle.entries.specs.Pieces.{entryIs, EntryWithin, lastOf, moreOf}
+use Rattle.text_entries.specs.Entries.{onFirst, pieces, eachNumber, entriesIn}
+use Rattle.text_entries.specs.Pieces.{entryIs, EntryWithin, lastOf, moreOf}
 
 -- ---- the first comma
 

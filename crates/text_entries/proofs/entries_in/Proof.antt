@@ -1,4 +1,4 @@
--- `entries::entries_in`: the entries read so far are held, and with those that the text from `at` on is they are all. Each turn passes a comma.
+-- `text_entries::entries_in`: the entries read so far are held, and with those that the text from `at` on is they are all. Each turn passes a comma.
 -- Assumes nothing.
 use mathlib.Core.Path.{sym, ap, subst, _∙_}
 use Prim.Native.Nat.{_-_, _≤_}
@@ -6,10 +6,10 @@ use native.Mathlib.Omega.{arith}
 use lib.ListN.{length}
 use borrow.Author.Needs.{needs}
 use Rattle.listing.specs.Limits.{largest64}
-use Rattle.entries.specs.Pieces.{entryIs, EntryWithin, EntriesIs}
-use Rattle.entries.proofs.Places.{Reading, reading-none, entry-bad, entry-last, entry-more}
-use Rattle.entries.proofs.entries_in.Statement.{statement}
-use Rattle.entries.proofs.entries_in.Tie as tie
+use Rattle.text_entries.specs.Pieces.{entryIs, EntryWithin, EntriesIs}
+use Rattle.text_entries.proofs.Places.{Reading, reading-none, entry-bad, entry-last, entry-more}
+use Rattle.text_entries.proofs.entries_in.Statement.{statement}
+use Rattle.text_entries.proofs.entries_in.Tie as tie
 
 abbrev Inv-loop : tie.InvT-loop
 Inv-loop t held₀ at₀ held at = (at ≤ length t) × Reading t held at
