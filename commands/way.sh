@@ -94,7 +94,7 @@ options() {
             --)
                 shift
                 [ $# -le $((1 - given)) ] || give_up "$bad_usage" "one file at most; $name --help says more"
-                [ $# -eq 0 ] || file=$1
+                [ $# -eq 0 ] || given=1 file=$1
                 break
                 ;;
             -?*) own_option "$@" || give_up "$bad_usage" "no such option: $1; $name --help lists them" ;;
@@ -109,9 +109,9 @@ options() {
     [ "$words" != asked ] || { if [ -t 2 ]; then words=on; else words=off; fi; }
 }
 
-# value OPTION VALUE..: an option that takes a value took two words; bad usage if there is only one
+# value OPTION VALUE..: an option that takes a value took two words; bad usage if there is only one, or nothing in the second
 value() {
-    [ $# -ge 2 ] || give_up "$bad_usage" "$1 needs a value; $name --help says which"
+    [ -n "${2-}" ] || give_up "$bad_usage" "$1 needs a value; $name --help says which"
     taken=2
 }
 

@@ -134,6 +134,19 @@ if cmp "$T/with" "$T/out" && cmp "$T/quiet" "$T/out"; then
 else
     fail 'commands: words change what is printed'
 fi
+# a signal to the command alone ends the program too
+env --default-signal=INT,TERM bin/orders --quiet "$T/circuit-20" >/dev/null &
+one=$!
+sleep 0.7
+kill -s INT "$one"
+wait "$one"
+ended=$?
+sleep 0.2
+if [ "$ended" -eq 130 ] && [ -z "$(grep -sl "$root/target/bin/[o]rders" /proc/[0-9]*/cmdline)" ]; then
+    pass 'commands: 130: Ctrl-C ends a print, and nothing runs on'
+else
+    fail "commands: Ctrl-C ends a print with $ended, or something runs on"
+fi
 # nothing is left among temporary files
 mkdir "$T/room"
 TMPDIR=$T/room bin/orders plans/example >/dev/null
