@@ -121,7 +121,11 @@ for signal in INT TERM HUP; do
     kill -s "$signal" -- "-$(cat "$building_out/leader")"
     wait "$one"
     ended=$?
-    sleep 0.2
+    tries=0
+    while runs "$job" && [ "$tries" -lt 20 ]; do
+        sleep 0.1
+        tries=$((tries + 1))
+    done
     case $signal in INT) want=130 ;; TERM) want=143 ;; HUP) want=129 ;; esac
     if [ "$ended" -eq "$want" ] && [ -n "$job" ] && ! runs "$job" && [ -z "$(ls "$building_out/room")" ] && flock -n "$tree/target/lock" true; then
         pass "building: $signal ends it with $want, and leaves nothing behind"

@@ -36,7 +36,7 @@ commands_status() { "$@"; echo $? >"$T/status"; }
 reader_gone() { commands_status "$@" | head -n 1 >/dev/null; return "$(cat "$T/status")"; }
 no_reader() { commands_status "$@" | true; return "$(cat "$T/status")"; }
 ignoring() { (trap '' PIPE; "$@"); }
-stopped() { timeout 1 "$@" >"$T/printed"; }
+stopped() { timeout 3 "$@" >"$T/printed"; }
 on_terminal() {
     script -qec "$1" /dev/null </dev/null >"$T/screen"
     terminal_status=$?
@@ -141,8 +141,13 @@ sleep 0.7
 kill -s INT "$one"
 wait "$one"
 ended=$?
-sleep 0.2
-if [ "$ended" -eq 130 ] && [ -z "$(grep -sl "$root/target/bin/[o]rders" /proc/[0-9]*/cmdline)" ]; then
+printing() { grep -sq "$root/target/bin/[o]rders" /proc/[0-9]*/cmdline; }
+tries=0
+while printing && [ "$tries" -lt 20 ]; do
+    sleep 0.1
+    tries=$((tries + 1))
+done
+if [ "$ended" -eq 130 ] && ! printing; then
     pass 'commands: 130: Ctrl-C ends a print, and nothing runs on'
 else
     fail "commands: Ctrl-C ends a print with $ended, or something runs on"
