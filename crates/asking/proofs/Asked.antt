@@ -33,6 +33,7 @@ use Rattle.asking.specs.Questions.{patternKey, markKey, Asked, oneLine, 
 use Rattle.asking.specs.Questions.{markField, ofMark, markOf, markedAsked, markAsked, wholePlan, wholeAsked}
 use Rattle.asking.specs.Answers.{markIn, QuestionIs}
 use Rattle.asking.specs.declared.Question.{Question}
+use Rattle.words.proofs.Told.{then-accepted}
 use Rattle.plan_rules.proofs.Within.{held-ruled}
 use Rattle.asking.proofs.Ruled.{accepted-gives, held-legs}
 
@@ -40,11 +41,6 @@ use Rattle.asking.proofs.Ruled.{accepted-gives, held-legs}
 pub record Asks (a : Asked) : Type 0 where
   pub fits : Fits device (a .plan)
   pub mark : a .mark < marks (a .plan .legs)
-
--- what is accepted after a step was accepted there
-after : {A B : Type 0} (told : Told A) (f : A → Told B) (b : B) → then told f ≡ accepted b → (a : A) × (told ≡ accepted a) × (f a ≡ accepted b)
-after (accepted a) f b e = (a, refl, e)
-after (refused k s) f b e = absurd (true≢false (cc))
 
 -- ---- a pattern
 
@@ -73,19 +69,19 @@ one-leg n r low high below = record {
 entries-ask : (t : List ℕ) (a : Asked) → entriesAsked t ≡ accepted a → Asks a
 unfolding entriesAsked rankOf
 entries-ask t a e =
-    let x = after (entriesOf t) _ a e in
-    let p : List ℕ = x .0 in
-    let y = after (rankOf mostPorts p) _ a (x .2) in
-    let z = after (checkOf mostPorts p) (λ ok. accepted (rank (length p) p)) (y .0) (y .1) in
-    let ok : accepted tt ≡ checkOf mostPorts p = sym (z .1) in
+    let x = then-accepted (entriesOf t) _ a e in
+    let p : List ℕ = x .first in
+    let y = then-accepted (rankOf mostPorts p) _ a (x .on) in
+    let z = then-accepted (checkOf mostPorts p) (λ ok. accepted (rank (length p) p)) (y .first) (y .taken) in
+    let ok : accepted tt ≡ checkOf mostPorts p = sym (z .taken) in
     let P = accepted-pattern mostPorts p ok in
-    let r : y .0 ≡ rank (length p) p = cc (z .2) in
-    let is : ofPattern (length p) (y .0) ≡ a = cc (y .2) in
-    subst Asks is (one-leg (length p) (y .0) (P .low) (P .high) (omega (arith, rank-fits mostPorts p ok, r)))
+    let r : y .first ≡ rank (length p) p = cc (z .on) in
+    let is : ofPattern (length p) (y .first) ≡ a = cc (y .on) in
+    subst Asks is (one-leg (length p) (y .first) (P .low) (P .high) (omega (arith, rank-fits mostPorts p ok, r)))
 
 pattern-asks : (t : List ℕ) (a : Asked) → patternAsked t ≡ accepted a → Asks a
 unfolding patternAsked
-pattern-asks t a e = let x = after (oneLine t) entriesAsked a e in entries-ask (x .0) a (x .2)
+pattern-asks t a e = let x = then-accepted (oneLine t) entriesAsked a e in entries-ask (x .first) a (x .on)
 
 -- ---- a plan
 
@@ -98,18 +94,18 @@ some-mark (l ∷ ls) h = omega arith
 whole-asks : (t : List ℕ) (a : Asked) → wholeAsked t ≡ accepted a → Asks a
 unfolding wholeAsked
 whole-asks t a e =
-    let x = after (readPlanOf t) (λ p. accepted (wholePlan p)) a e in
-    let f = accepted-fits device 1 t (x .0) (x .1) .0 in
-    let is : wholePlan (x .0) ≡ a = cc (x .2) in
-    subst Asks is (record { fits = f; mark = some-mark (x .0 .legs) (f .fewLegs) })
+    let x = then-accepted (readPlanOf t) (λ p. accepted (wholePlan p)) a e in
+    let f = accepted-fits device 1 t (x .first) (x .taken) .0 in
+    let is : wholePlan (x .first) ≡ a = cc (x .on) in
+    subst Asks is (record { fits = f; mark = some-mark (x .first .legs) (f .fewLegs) })
 
 mark-asks : (t : List ℕ) (a : Asked) → markAsked t ≡ accepted a → Asks a
 unfolding markAsked markedAsked
 mark-asks t a e =
-    let x = after (fieldIn markField 0 t) _ a e in
-    let k : ℕ = x .0 .value .magnitude in
-    let y = after (readPlanOf (x .0 .rest)) (markOf k) a (x .2) in
-    has k (y .0) (accepted-fits device 1 (x .0 .rest) (y .0) (y .1) .0) (ltb k (marks (y .0 .legs))) refl (y .2)
+    let x = then-accepted (fieldIn markField 0 t) _ a e in
+    let k : ℕ = x .first .value .magnitude in
+    let y = then-accepted (readPlanOf (x .first .rest)) (markOf k) a (x .on) in
+    has k (y .first) (accepted-fits device 1 (x .first .rest) (y .first) (y .taken) .0) (ltb k (marks (y .first .legs))) refl (y .on)
   where
     has : (k : ℕ) (p : Planned) → Fits device p → (b : Bool) → ltb k (marks (p .legs)) ≡ b
         → cond b (accepted (ofMark k p)) (refused 6 nowhere) ≡ accepted a → Asks a

@@ -1,6 +1,6 @@
 -- The places of a plan that fits hold its legs (`held-legs`) and its marks (`held-marks`). At the front, a refusal that is passed on.
 -- Assumes nothing.
-use mathlib.Core.Path.{_≡_, refl, ap, _∙_}
+use mathlib.Core.Path.{_≡_, sym, ap, _∙_}
 use mathlib.Core.Bool.{true, true≢false}
 use Prim.Native.Nat.{ℕ}
 use lib.ListN.{length, take}
@@ -8,6 +8,7 @@ use lib.Seq.{take-length}
 use Rattle.listing.specs.Limits.{mostLegs}
 use Rattle.promise.specs.Plan.{marks}
 use Rattle.words.specs.Told.{Told, Spot, accepted, refused, then}
+use Rattle.words.proofs.Told.{then-accepted}
 use Rattle.plan_rules.specs.Planned.{Planned, Fits, device}
 use Rattle.plan_rules.specs.Places.{placed}
 use Rattle.plan_rules.specs.Rules.{legsOf}
@@ -27,8 +28,7 @@ refused-on (refused j p) f g k s e = cc
 
 -- what is accepted gives something
 pub accepted-gives : {A B : Type 0} (told : Told A) (f : A → B) (b : B) → accepted b ≡ then told (λ a. accepted (f a)) → (a : A) × (told ≡ accepted a)
-accepted-gives (accepted a) f b e = (a, refl)
-accepted-gives (refused j p) f b e = absurd (true≢false (cc))
+accepted-gives told f b e = let x = then-accepted told (λ a. accepted (f a)) b (sym e) in (x .first, x .taken)
 
 -- ---- a plan that fits, in its places
 

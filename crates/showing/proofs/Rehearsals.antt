@@ -16,12 +16,12 @@ use Rattle.promise.specs.Derangements.{derangements}
 use Rattle.plan_rules.specs.Planned.{LegFits, device}
 use Rattle.plan_rules.specs.Rules.{legIs, legsOf, Ruled, planRuled}
 use Rattle.plan_rules.specs.declared.Plan.{Plan}
-use Rattle.plan_rules.proofs.Held.{each-fits}
 use Rattle.plan_rules.proofs.Rules.{ruled}
 use Rattle.campaign_way.proofs.Walks.{walk-listed}
 use Rattle.printing.specs.declared.Rehearsal.{Rehearsal}
 use Rattle.showing.specs.Places.{markRank, rehearsalAt, PlaceIs}
 use Rattle.showing.specs.declared.marks.MarkPlace.{MarkPlace}
+use Rattle.showing.proofs.Ruled.{leg-fits}
 use Rattle.showing.proofs.Places.{leg-of, leg-found, step-of}
 
 -- the plan of a mark with its places, the mark's place, and its leg
@@ -37,7 +37,7 @@ module _ (p : Plan) (k : ℕ) (r : MarkPlace) (l : words.Leg) (F : Found p k r l
   rules = ruled device p (F .starts) (F .runs) (F .plan)
 
   fits : LegFits (count (p .ports)) (legIs l)
-  fits = subst (LegFits (count (p .ports))) (sym (F .leg)) (each-fits (count (p .ports)) (legsOf p) (rules .fits .each) (r .leg) (F .place .leg))
+  fits = leg-fits p (F .starts) (F .runs) (F .plan) (r .leg) l (F .place .leg) (F .leg)
 
   -- what is asked of its rank
   pub rank-asked : (2 ≤ p .ports) × (p .ports ≤ mostPorts) × (l .start < count (p .ports)) × (r .step < count (p .ports))

@@ -34,13 +34,14 @@ module _ (p : Plan) (ls : length (p .starts) ≡ mostLegs) (lr : length (p .runs
   pub ports-ruled : (2 ≤ p .ports) × (p .ports ≤ mostPorts)
   ports-ruled = (rules .fits .fewPorts, rules .fits .manyPorts)
 
+  -- its legs fit
+  pub leg-fits : (i : ℕ) (l : words.Leg) → i < length (legsOf p) → legIs l ≡ legAt (legsOf p) i → LegFits (count (p .ports)) (legIs l)
+  leg-fits i l h is = subst (LegFits (count (p .ports))) (sym is) (each-fits (count (p .ports)) (legsOf p) (rules .fits .each) i h)
+
   -- leg i
   module _ (i : ℕ) (h : i < p .legs) (l : words.Leg) (is : legIs l ≡ legAt (legsOf p) i) where
-    many : i < length (legsOf p)
-    many = omega (arith, legs-many device p ls lr e)
-
     fits : LegFits (count (p .ports)) (legIs l)
-    fits = subst (LegFits (count (p .ports))) (sym is) (each-fits (count (p .ports)) (legsOf p) (rules .fits .each) i many)
+    fits = leg-fits i l (omega (arith, legs-many device p ls lr e)) is
 
     -- what is asked of the rank of its last mark
     pub last-asked : (2 ≤ p .ports) × (p .ports ≤ mostPorts) × (l .start < count (p .ports)) × (l .run < count (p .ports))
