@@ -4,7 +4,8 @@
  * What it gives beside that stands in `answer`, JIDROFEX_ANSWER_WORDS words that the call always writes, all of them:
  *
  *     accepted   the values that the call names below as given, then zeros
- *     refused    the place (a jack or a line of a plan; 0 where none is said), then zeros
+ *     refused    the place (a jack or a line of a plan; 0 where none is said), then a second number: for 4 the jack
+ *                of the earlier equal entry, for every other refusal 0; then zeros
  *
  * A refused call changes nothing else. The one exception is said at its calls: jidrofex_begin and jidrofex_rehearse on
  * a refused text. At each call stand the numbers that it may be refused with, in the order in which they are tried; of
@@ -32,7 +33,7 @@ extern "C" {
 
 /* The version of this header. It goes up by one whenever a call, a constant or the words of a state change;
  * jidrofex_version gives that of the library. */
-enum { JIDROFEX_VERSION = 1 };
+enum { JIDROFEX_VERSION = 2 };
 
 enum {
     JIDROFEX_MOST_PORTS = 20,
@@ -42,7 +43,8 @@ enum {
     JIDROFEX_LINE_BYTES = 45,     /* the longest line of a campaign or a rehearsal, its newline included */
     JIDROFEX_ANY_LINE_BYTES = 47, /* the longest line that jidrofex_write_line writes: a mark that no campaign has */
     JIDROFEX_PLAN_BYTES = 801,    /* the longest plan that is accepted */
-    JIDROFEX_WORDS_BYTES = 49     /* the longest words of a refusal */
+    JIDROFEX_WORDS_BYTES = 49,    /* the longest words of a refusal */
+    JIDROFEX_SENTENCE_BYTES = 86  /* the longest sentence of a refusal, whatever words it is made of */
 };
 
 /* The refusals, by number; jidrofex_refusal_words gives the words. */
@@ -51,7 +53,7 @@ enum {
     JIDROFEX_REFUSED_PORTS = 1,        /* ports, or the length of a pattern or panel, not 2 to 20 */
     JIDROFEX_REFUSED_ROOM = 2,         /* the line, or the words, do not fit the buffer */
     JIDROFEX_REFUSED_OUTSIDE = 3,      /* at that jack: an entry outside 1..n */
-    JIDROFEX_REFUSED_REPEATED = 4,     /* at that jack: an entry equal to an earlier one */
+    JIDROFEX_REFUSED_REPEATED = 4,     /* at that jack: an entry equal to an earlier one, at the second number's jack */
     JIDROFEX_REFUSED_OWN_JACK = 5,     /* at that jack: an entry equal to its own jack (patterns only) */
     JIDROFEX_REFUSED_RANK = 6,         /* the rank is not below the count */
     JIDROFEX_REFUSED_KEY = 7,          /* in text: the key */
@@ -125,6 +127,15 @@ uint8_t jidrofex_version(uint64_t answer[JIDROFEX_ANSWER_WORDS]);
  * their values. 0 is "accepted", and a number that no refusal has has words that say so. Gives how many bytes they
  * take. Refused: 2. */
 uint8_t jidrofex_refusal_words(uint8_t number, uint8_t *buffer, size_t bytes, uint64_t answer[JIDROFEX_ANSWER_WORDS]);
+
+/* A refusal as a sentence, for people: its number, and the answer of the call that was refused, of which the first two
+ * words are looked at. Before the words of the number stands where the fault is, "jack 5: " for 3, 4 and 5, "line 7: "
+ * for any other refusal, nothing where the first word is 0; after those of 4 stands where the other one is, ", at jack
+ * 2", and nothing where the second word is 0. So (2,3,4,5,3) has "jack 5: entry equal to an earlier one, at jack 2". Of
+ * 0, and of a number that no refusal has, the sentence is the words alone. At the front of the buffer, with no newline
+ * and no zero byte; later bytes keep their values. Gives how many bytes it takes. Refused: 2. */
+uint8_t jidrofex_refusal_sentence(uint8_t number, const uint64_t refused[JIDROFEX_ANSWER_WORDS], uint8_t *buffer,
+                                  size_t bytes, uint64_t answer[JIDROFEX_ANSWER_WORDS]);
 
 /* ---- patterns: n bytes, the port at each jack from jack 1 on */
 
