@@ -2,7 +2,7 @@
 -- Assumes nothing.
 use Prim.Native.Nat.{ℕ}
 use mathlib.Core.List.{List, [], _∷_}
-use Rattle.words.specs.Told.{Told, accepted, refused, spotNumber}
+use Rattle.words.specs.Told.{Told, accepted, refused, spotNumber, earlierNumber}
 use Rattle.words.specs.Padded.{padded}
 
 -- 'a number: 0 if it was accepted, else the number of the refusal'
@@ -18,10 +18,11 @@ answerCount = 5
 abbrev pub five : List ℕ → List ℕ
 five l = padded answerCount 0 l
 
--- 'accepted: the values that the call names, then zeros; refused: the place, then zeros'
+-- 'accepted: the values that the call names, then zeros; refused: the place, then a second number: for 4 the jack of the earlier equal entry, for every other
+-- refusal 0; then zeros'
 abbrev pub wordsTold : {A : Type 0} → (A → List ℕ) → Told A → List ℕ
 wordsTold values (accepted a) = five (values a)
-wordsTold values (refused k s) = five (spotNumber s ∷ [])
+wordsTold values (refused k s) = five (spotNumber s ∷ earlierNumber s ∷ [])
 
 -- ---- the version
 

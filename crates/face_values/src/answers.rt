@@ -2,11 +2,12 @@
 use words::Numbered;
 use words::Outcome;
 use words::Refusal;
+use words::refusals::earlier_number;
 use words::refusals::place_number;
 use words::refusals::reason_number;
 ghost use mathlib.Core.Path.{_≡_};
 ghost use mathlib.Core.List.{[], _∷_};
-ghost use Rattle.words.specs.Told.{spotNumber};
+ghost use Rattle.words.specs.Told.{spotNumber, earlierNumber};
 ghost use Rattle.words.specs.Meaning.{numberOf, spotOf, outcomeTold, numberedTold};
 ghost use Rattle.face_values.specs.Answers.{five, numberTold, wordsTold, nothing, oneNumber};
 
@@ -22,14 +23,21 @@ pub fn give(answer: &mut [u64; ANSWER_WORDS], a: u64, b: u64, c: u64, d: u64, e:
     0
 }
 
-// A refused call: its place in the answer, and its number.
+// A refused call: its place and its second number in the answer, and its number.
 pub fn refuse(f: Refusal, answer: &mut [u64; ANSWER_WORDS]) -> u8
     ensures number { λ r. ⌜ r ≡ numberOf (f .reason) ⌝ }
-    ensures words { λ _. ⌜ now (answer .exit) ≡ five (spotNumber (spotOf (f .place)) ∷ []) ⌝ }
+    ensures words { λ _. ⌜ now (answer .exit) ≡ five (spotNumber (spotOf (f .place)) ∷ earlierNumber (spotOf (f .place)) ∷ []) ⌝ }
 {
     let place = f.place;
     let reason = f.reason;
-    give(answer, place_number(place) as u64, 0, 0, 0, 0);
+    give(
+        answer,
+        place_number(place) as u64,
+        earlier_number(place) as u64,
+        0,
+        0,
+        0,
+    );
     reason_number(reason)
 }
 

@@ -1,5 +1,7 @@
 pub mod Faults
 pub mod Sound
+pub mod Jacks
+pub mod Cases
 pub mod Calls
 pub mod Accepted
 pub mod Only

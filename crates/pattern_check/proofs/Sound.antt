@@ -38,10 +38,10 @@ misses-seek p v i (suc k) none =
     rw (ne-eqb (entry p i) v (none i (omega arith) (omega arith))) (misses-seek p v (suc i) k (λ a h l. none a (omega arith) (omega arith)))
 
 -- what no fault at jack j says
-record Clean (pattern : Bool) (n : ℕ) (p : List ℕ) (j : ℕ) : Type 0 where
-  port : Among n (entry p j)
-  fresh : earlier p j ≡ 0
-  away : pattern ≡ true → entry p j ≢ j
+pub record Clean (pattern : Bool) (n : ℕ) (p : List ℕ) (j : ℕ) : Type 0 where
+  pub port : Among n (entry p j)
+  pub fresh : earlier p j ≡ 0
+  pub away : pattern ≡ true → entry p j ≢ j
 
 -- it is so where nothing is found
 clean-sound : (pattern : Bool) (n : ℕ) (p : List ℕ) (j : ℕ) → Clean pattern n p j → faultAt pattern n p j ≡ sound
@@ -62,7 +62,7 @@ not-found f e (is-repeated j k h) = absurd (true≢false (cc))
 not-found f e (is-own j h) = absurd (true≢false (cc))
 
 -- and only there: each other port at the jack is one of the three faults
-sound-clean : (pattern : Bool) (n : ℕ) (p : List ℕ) (j : ℕ) → faultAt pattern n p j ≡ sound → Clean pattern n p j
+pub sound-clean : (pattern : Bool) (n : ℕ) (p : List ℕ) (j : ℕ) → faultAt pattern n p j ≡ sound → Clean pattern n p j
 unfolding faultAt
 sound-clean pattern n p zero e = not-found (outside 0) e (is-outside 0 refl)
 sound-clean pattern n p (suc at) e =
@@ -108,7 +108,7 @@ clean-from pattern n p j (suc k) each =
 -- ---- the law
 
 -- a later jack does not hold the port of an earlier one
-fresh-apart : (pattern : Bool) (n : ℕ) (p : List ℕ) (j k : ℕ) → 1 ≤ j → j < k → Clean pattern n p k → entry p j ≢ entry p k
+pub fresh-apart : (pattern : Bool) (n : ℕ) (p : List ℕ) (j k : ℕ) → 1 ≤ j → j < k → Clean pattern n p k → entry p j ≢ entry p k
 fresh-apart pattern n p j zero low l c = absurd (omega arith)
 fresh-apart pattern n p j (suc k) low l c = seek-misses p (entry p (suc k)) 1 k (omega arith) (c .fresh) j low (omega arith)
 

@@ -6,7 +6,7 @@ use mathlib.Core.List.{List}
 use lib.Dec.{leb}
 use lib.ListN.{length}
 use Rattle.words.specs.Told.{Told, refused, nowhere}
-use Rattle.pattern_check.specs.Faults.{faultOf, faultTold}
+use Rattle.pattern_check.specs.Faults.{faultOf, faultTold, paperTold}
 
 -- whether the ports are 2 to most
 unfoldable pub inSize : ℕ → ℕ → Bool
@@ -23,3 +23,7 @@ checkAs pattern most p = sized most (length p) (faultTold (faultOf pattern p) tt
 -- the check of a pattern
 abbrev pub checkOf : ℕ → List ℕ → Told (Unit {0})
 checkOf most p = checkAs true most p
+
+-- the check as the paper alone has it, with no second number
+unfoldable pub paperCheck : Bool → ℕ → List ℕ → Told (Unit {0})
+paperCheck pattern most p = sized most (length p) (paperTold (faultOf pattern p) tt)

@@ -7,7 +7,7 @@ use lib.Dec.{eqb, leb}
 use lib.ListN.{length}
 use Rattle.listing.specs.Numbers.{before}
 use Rattle.listing.specs.Pattern.{entry}
-use Rattle.words.specs.Told.{Told, accepted, refused, atJack}
+use Rattle.words.specs.Told.{Told, accepted, refused, atJack, atJacks}
 
 -- what is found at a jack: no fault; a port outside 1..n; a port that an earlier jack holds too, with that jack; a port at its own jack
 pub data Fault : Type 0 where
@@ -51,9 +51,16 @@ faultFrom pattern n p j (suc k) = firstOf (faultAt pattern n p j) (faultFrom pat
 abbrev pub faultOf : Bool → List ℕ → Fault
 faultOf pattern p = faultFrom pattern (length p) p 1 (length p)
 
--- what a fault tells: its number, and the jack at fault
+-- what a fault tells: its number and the jack at fault; of a repeated port also the earlier jack that holds it (request 7, 'Say where the other one is')
 abbrev pub faultTold : {A : Type 0} → Fault → A → Told A
 faultTold sound a = accepted a
 faultTold (outside j) a = refused 3 (atJack j)
-faultTold (repeated j k) a = refused 4 (atJack j)
+faultTold (repeated j k) a = refused 4 (atJacks j k)
 faultTold (ownJack j) a = refused 5 (atJack j)
+
+-- what the paper alone lists of it: its number, and the jack at fault
+abbrev pub paperTold : {A : Type 0} → Fault → A → Told A
+paperTold sound a = accepted a
+paperTold (outside j) a = refused 3 (atJack j)
+paperTold (repeated j k) a = refused 4 (atJack j)
+paperTold (ownJack j) a = refused 5 (atJack j)

@@ -1,3 +1,4 @@
 pub mod Faults
+pub mod Jacks
 pub mod Calls
 pub mod Answers

@@ -67,7 +67,7 @@ pub fn in_size(ports: usize) -> bool
     ports <= LONGEST
 }
 
-// The refusal of a fault: its number, at the jack at fault.
+// The refusal of a fault: its number, at the jack at fault; of a repeated port with the earlier jack that holds it.
 fn refusal_of(f: Fault) -> Outcome
     ensures { λ r. ⌜ outcomeTold r ≡ faultTold (faultIs f) tt ⌝ }
 {
@@ -77,9 +77,9 @@ fn refusal_of(f: Fault) -> Outcome
             reason: Reason::Outside,
             place: Place::AtJack(j),
         }),
-        Fault::Repeated(j, _) => Outcome::Refused(Refusal {
+        Fault::Repeated(j, i) => Outcome::Refused(Refusal {
             reason: Reason::Repeated,
-            place: Place::AtJack(j),
+            place: Place::AtJacks(j, i),
         }),
         Fault::OwnJack(j) => Outcome::Refused(Refusal {
             reason: Reason::OwnJack,

@@ -6,7 +6,7 @@ use Prim.Native.Nat.{ℕ}
 use lib.ListN.{getD}
 use Rattle.listing.specs.Orders.{swap, turn, nothing, one, two}
 use Rattle.listing.specs.Orders as list
-use Rattle.words.specs.Told.{Spot, nowhere, atJack, atLine}
+use Rattle.words.specs.Told.{Spot, nowhere, atJack, atJacks, atLine}
 use Rattle.words.specs.Meaning.{jackAt, orderOf, orderFrom, moveOf, numberOf, spotOf, refusalOf, outcomeTold, numberedTold}
 use Rattle.words.specs.declared.Order.{Order}
 use Rattle.words.specs.declared.Order.the-variants.{Swap, Turn}
@@ -15,7 +15,7 @@ use Rattle.words.specs.declared.Move.the-variants.{Nothing, One, Two}
 use Rattle.words.specs.declared.Reason.{Reason}
 use Rattle.words.specs.declared.Reason.the-variants.{Ports, Room, Outside, Repeated, OwnJack, Rank, Key, Number, Legs, Run, Ended, NoMark, MarkStands, Kind, Unfit, Errors, Shape}
 use Rattle.words.specs.declared.Place.{Place}
-use Rattle.words.specs.declared.Place.the-variants.{Nowhere, AtJack, AtLine}
+use Rattle.words.specs.declared.Place.the-variants.{Nowhere, AtJack, AtJacks, AtLine}
 use Rattle.words.specs.declared.Refusal.{Refusal}
 use Rattle.words.specs.declared.Outcome.{Outcome}
 use Rattle.words.specs.declared.Outcome.the-variants.{Accepted, Refused as Outcome-Refused}
@@ -37,6 +37,7 @@ reason k =
 abbrev place : Spot → Place
 place nowhere = Nowhere
 place (atJack j) = AtJack (jackAt j)
+place (atJacks j i) = AtJacks (jackAt j) (jackAt i)
 place (atLine l) = AtLine l
 
 -- the order that its numbers say
@@ -76,6 +77,7 @@ reason-back Shape = refl
 place-back : (p : Place) → place (spotOf p) ≡ p
 place-back Nowhere = refl
 place-back (AtJack j) = refl
+place-back (AtJacks j i) = refl
 place-back (AtLine l) = refl
 
 -- ---- so each is met once

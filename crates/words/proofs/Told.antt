@@ -1,10 +1,10 @@
--- What was accepted after several steps was accepted by each.
+-- What was accepted after several steps was accepted by each, and what is refused is told whole, by a call that goes on too.
 -- Assumes nothing.
-use mathlib.Core.Path.{_≡_, refl}
+use mathlib.Core.Path.{_≡_, refl, ap}
 use mathlib.Core.Bool.{true≢false}
 use mathlib.Core.Option.{Option, none, some}
 use Prim.Native.Nat.{ℕ}
-use Rattle.words.specs.Told.{Told, Spot, accepted, refused, then, need}
+use Rattle.words.specs.Told.{Told, Spot, accepted, refused, toldAlone, then, need}
 
 -- what is refused is not accepted
 pub not-both : {A : Type 0} {k : ℕ} {s : Spot} {a : A} → refused k s ≡ accepted a → ⊥
@@ -28,3 +28,12 @@ pub record Both {A B : Type 0} (told : Told A) (go : A → Told B) (b : B) : Typ
 pub then-accepted : {A B : Type 0} (told : Told A) (go : A → Told B) (b : B) → then told go ≡ accepted b → Both told go b
 then-accepted (accepted a) go b e = record { first = a; taken = refl; on = e }
 then-accepted (refused k s) go b e = absurd (not-both e)
+
+-- a call that goes on passes a refusal on whole: its number, its place and its second number
+pub then-passes : {A B : Type 0} (told : Told A) (go : A → Told B) (k : ℕ) (s : Spot) → told ≡ refused k s → then told go ≡ refused k s
+then-passes told go k s e = ap (λ t. then t go) e
+
+-- and so it does without the second number, if what it goes on with has none
+pub then-alone : {A B : Type 0} (told : Told A) (go : A → Told B) → ((a : A) → toldAlone (go a) ≡ go a) → toldAlone (then told go) ≡ then (toldAlone told) go
+then-alone (accepted a) go plain = plain a
+then-alone (refused k s) go plain = refl

@@ -3,7 +3,7 @@
 use Prim.Native.Nat.{ℕ}
 use Rattle.listing.specs.Orders.{swap, turn, nothing, one, two}
 use Rattle.listing.specs.Orders as list
-use Rattle.words.specs.Told.{Spot, nowhere, atJack, atLine, Told, accepted, refused}
+use Rattle.words.specs.Told.{Spot, nowhere, atJack, atJacks, atLine, Told, accepted, refused}
 use Rattle.words.specs.declared.Jack.{Jack}
 use Rattle.words.specs.declared.Order.{Order}
 use Rattle.words.specs.declared.Order.the-variants.{Swap, Turn}
@@ -12,7 +12,7 @@ use Rattle.words.specs.declared.Move.the-variants.{Nothing, One, Two}
 use Rattle.words.specs.declared.Reason.{Reason}
 use Rattle.words.specs.declared.Reason.the-variants.{Ports, Room, Outside, Repeated, OwnJack, Rank, Key, Number, Legs, Run, Ended, NoMark, MarkStands, Kind, Unfit, Errors, Shape}
 use Rattle.words.specs.declared.Place.{Place}
-use Rattle.words.specs.declared.Place.the-variants.{Nowhere, AtJack, AtLine}
+use Rattle.words.specs.declared.Place.the-variants.{Nowhere, AtJack, AtJacks, AtLine}
 use Rattle.words.specs.declared.Refusal.{Refusal}
 use Rattle.words.specs.declared.Outcome.{Outcome}
 use Rattle.words.specs.declared.Outcome.the-variants.{Accepted, Refused as Outcome-Refused}
@@ -62,6 +62,7 @@ numberOf Shape = 17
 abbrev pub spotOf : Place → Spot
 spotOf Nowhere = nowhere
 spotOf (AtJack j) = atJack (j .0)
+spotOf (AtJacks j i) = atJacks (j .0) (i .0)
 spotOf (AtLine l) = atLine l
 
 -- what a refusal tells: its number and its place

@@ -52,10 +52,12 @@ pub enum Reason {
     Shape,
 }
 
-// Where the fault is: at a jack of a pattern or panel, at a line of a plan, or at no place that is said.
+// Where the fault is: at a jack of a pattern or panel, at a jack whose port an earlier jack, the second one, holds too, at a line of a plan, or at no place that
+// is said.
 pub enum Place {
     Nowhere,
     AtJack(Jack),
+    AtJacks(Jack, Jack),
     AtLine(u8),
 }
 

@@ -3,7 +3,7 @@ use crate::Place;
 use crate::Reason;
 use crate::Refusal;
 ghost use mathlib.Core.Path.{_≡_};
-ghost use Rattle.words.specs.Told.{spotNumber};
+ghost use Rattle.words.specs.Told.{spotNumber, earlierNumber};
 ghost use Rattle.words.specs.Meaning.{numberOf, spotOf};
 ghost use Rattle.words.specs.declared.Place.the-variants.{Nowhere, AtLine};
 
@@ -59,6 +59,19 @@ pub fn place_number(place: Place) -> u8
     match place {
         Place::Nowhere => 0,
         Place::AtJack(j) => j.0,
+        Place::AtJacks(j, _) => j.0,
         Place::AtLine(l) => l,
+    }
+}
+
+// The second number of a refusal: the jack of the earlier equal entry, 0 where there is none.
+pub fn earlier_number(place: Place) -> u8
+    ensures { λ r. ⌜ r ≡ earlierNumber (spotOf place) ⌝ }
+{
+    match place {
+        Place::Nowhere => 0,
+        Place::AtJack(_) => 0,
+        Place::AtJacks(_, i) => i.0,
+        Place::AtLine(_) => 0,
     }
 }
