@@ -276,10 +276,11 @@ progress() {
     say_again "$now %: $1 of $marks marks"
 }
 
-# run: the program on what was spooled, its standard output ours; sets `outcome`, for a refusal `number` and `place`, and `ended`, its status
+# run: the program on what was spooled, its standard output ours; sets `outcome`, for a refusal `number`, `place` and `earlier`, and `ended`, its status
 outcome=none
 number=''
 place=''
+earlier=''
 run() {
     mkfifo "$work/told"
     start_program <"$work/text" 3>"$work/told" &
@@ -293,6 +294,7 @@ run() {
             done=*) [ "$outcome" != none ] || progress "${line#*=}" ;;
             refused=*) outcome=refused number=${line#*=} ;;
             at=*) place=${line#*=} ;;
+            earlier=*) earlier=${line#*=} ;;
             *) outcome=$line ;;
         esac
     done <"$work/told"
@@ -319,8 +321,8 @@ finish() {
         printed) exit "$printed_all" ;;
         refused)
             [ "$words" = off ] ||
-                awk -v name="$name" -v asked="$asked" -v number="$number" -v place="$place" -v bytes="$(wc -c <"$work/text")" \
-                    -f "$root/commands/words.awk" "$work/text" >&2
+                awk -v name="$name" -v asked="$asked" -v number="$number" -v place="$place" -v earlier="$earlier" \
+                    -v bytes="$(wc -c <"$work/text")" -f "$root/commands/words.awk" "$work/text" >&2
             exit "$was_refused"
             ;;
         unreadable) exit "$unreadable" ;;

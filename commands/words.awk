@@ -1,6 +1,6 @@
-# A refusal in words, for people: `number` and `place` as the program told them, what was read on standard input, `bytes` long. `asked` is what was asked for:
-# a plan; a mark of a plan, whose line stands before the plan's own; a rank, which stands in the plan of one leg that starts there; or a pattern.
-# Each line begins with the command's `name`. The first says what is wrong and where, those after it what often makes it so.
+# A refusal in words, for people: `number`, `place` and `earlier`, the second number, as the program told them; what was read on standard input, `bytes` long.
+# `asked` is what was asked for: a plan; a mark of a plan, whose line stands before the plan's own; a rank, which stands in the plan of one leg that starts
+# there; or a pattern. Each line begins with the command's `name`. The first says what is wrong and where, those after it what often makes it so.
 
 { line[NR] = $0; whole += length($0) + 1 }
 
@@ -70,7 +70,7 @@ function pattern_words(  entry, n) {
     n = split(substr(line[1], 9), entry, ",")
     if (number == 1) return "a pattern has 2 to 20 entries, and this one has " n
     if (number == 3) return "jack " place ": there is no port " entry[place] " among 1 to " n
-    if (number == 4) return "jack " place ": port " entry[place] " is joined to an earlier jack already"
+    if (number == 4) return "jack " place ": port " entry[place] " is joined to jack " earlier " already"
     if (number == 5) return "jack " place ": it is joined to the port of its own number"
     return "the pattern is not plain decimal numbers with commas between them"
 }

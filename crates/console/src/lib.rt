@@ -2,6 +2,7 @@
 // 3, in lines that the command's wrapper reads (commands/way.sh). Standard error gets one line, and only where something cannot be read or written.
 use line_refusal::refusal_text;
 use words::Refusal;
+use words::refusals::earlier_number;
 ghost use Rattle.io.specs.Counts.{Counts};
 
 // The descriptor on which a program tells its outcome.
@@ -69,13 +70,15 @@ pub fn printed() {
     tell(b"printed\n");
 }
 
-// A refusal's two lines, on standard output and as the outcome.
+// A refusal's two lines, on standard output and as the outcome, which has its second number too.
 pub fn refused(name: &[u8], f: Refusal) {
+    let place = f.place;
     let text = refusal_text(f);
     let bytes = text.bytes;
     let n = text.len;
     let lines = &bytes[..n];
     if written(name, lines) {
         tell(lines);
+        tell_number(b"earlier=", earlier_number(place) as u64);
     }
 }

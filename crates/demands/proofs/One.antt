@@ -6,17 +6,18 @@ use mathlib.Core.Logic.{inl, inr}
 use mathlib.Core.Bool.{Bool, true, false, not, _&&_, true≢false}
 use mathlib.Core.List.{List, [], _∷_}
 use mathlib.Core.Option.{Option, none, some}
-use Prim.Native.Nat.{ℕ}
+use Prim.Native.Nat.{ℕ, zero, suc}
 use lib.Dec.{eqb, leb, ltb}
 use lib.ListN.{length, drop}
 use Rattle.listing.specs.Orders.{Order}
 use Rattle.listing.specs.Limits.{mostPorts, largest64}
 use Rattle.listing.specs.Count.{count}
 use Rattle.listing.proofs.Numbers.{either}
-use Rattle.words.specs.Told.{Told, Spot, nowhere, accepted, refused}
+use Rattle.words.specs.Told.{Told, Spot, nowhere, atJack, atJacks, accepted, refused, earlierNumber}
 use Rattle.words.specs.declared.Line.{Line}
 use Rattle.pattern_check.specs.Faults.{Fault, sound, outside, repeated, ownJack, faultOf, faultTold}
 use Rattle.pattern_check.specs.Calls.{checkAs, checkOf}
+use Rattle.pattern_check.proofs.Jacks.{check-second}
 use Rattle.patterns.specs.Calls.{ranked, countOf, rankOf, unrankOf, unrankBytes, besideOf, besideBytes, stepOf}
 use Rattle.panel.specs.Calls.{onPanel, portOf, jackOf, carryOf, carryBytes}
 use Rattle.panel.proofs.Accepted.{panel-refused}
@@ -27,7 +28,7 @@ use Rattle.line_format.specs.Calls.{roomOf, roomBytes, writeOf, writeBytes}
 use Rattle.words.specs.Shape.{lineFits}
 use Rattle.line_format.specs.Reading.{fitting, numbersIn, numbersTold, keyed, lineIn, readOf}
 use Rattle.line_refusal.specs.Words.{wordsOf, refusalWordsOf, refusalWordsBytes}
-use Rattle.promise.specs.Campaign.{Setting, refusal, Call, request, reportTo, reportOf, isError, todo, next, offer, standsFor, answer}
+use Rattle.promise.specs.Campaign.{Setting, movement, mark, theEnd, taken, refusal, Call, request, reportTo, reportOf, isError, todo, next, offer, standsFor, answer}
 use Rattle.promise.specs.Campaign as model
 use Rattle.campaign_state.specs.State.{settingOf, momentOf}
 use Rattle.campaign_state.specs.Fitness.{placesFit, fit}
@@ -36,14 +37,17 @@ use Rattle.campaign.specs.Calls as calls
 use Rattle.campaign.specs.Calls.{answerOf, leftOf, bytesOf}
 use Rattle.campaign.proofs.Moments.{refusal-leaves}
 use Rattle.campaign.proofs.Tells.{bytes-stay}
+use Rattle.printing.specs.Printing.{sequel, linesIn}
+use Rattle.printing.specs.Answers.{stopTold}
 use Rattle.printing.specs.Rehearsals.{stateOf}
 use Rattle.printing.specs.declared.Rehearsal.{Rehearsal}
 use Rattle.campaign_onward.specs.Calls.{whereOf, statusOf, panelIn, fitTold, resumeOf, resumedOf, goesOn}
 use Rattle.printing.proofs.Refused.{refused-first, rehearsal-stays, bytes-stay as line-bytes-stay}
 use Rattle.plan_rules.specs.Planned.{device}
-use Rattle.demands.specs.One.{OneOf, Refuses, Keeps, RefusesAs, DemandOne}
+use Rattle.demands.specs.One.{OneOf, EachRefusal, Listed, Refuses, Keeps, RefusesAs, DemandOne}
 use Rattle.demands.proofs.PlanNumbers.{plan-numbers}
-use Rattle.demands.proofs.Numbers.{from-accepted, from-refused, from-then, from-need, from-cond, from-sized, answer-cond, answer-refusal, kept}
+use Rattle.demands.proofs.Jacks.{panel-second}
+use Rattle.demands.proofs.Numbers.{never, at-once, from-accepted, from-refused, from-then, from-need, from-cond, from-sized, answer-cond, answer-refusal, kept}
 
 -- ---- patterns
 
@@ -52,9 +56,9 @@ ofPattern = 1 ∷ 3 ∷ 4 ∷ 5 ∷ []
 
 fault-numbers : (f : Fault) → Refuses ofPattern (faultTold f (tt {0}))
 fault-numbers sound = from-accepted ofPattern tt
-fault-numbers (outside j) = from-refused ofPattern 3 _ (inr (inl refl))
-fault-numbers (repeated j k) = from-refused ofPattern 4 _ (inr (inr (inl refl)))
-fault-numbers (ownJack j) = from-refused ofPattern 5 _ (inr (inr (inr (inl refl))))
+fault-numbers (outside j) = from-refused ofPattern 3 (atJack j) refl (inr (inl refl))
+fault-numbers (repeated j i) = at-once (Listed ofPattern) 4 (atJacks j i) (inr (inr (inl refl)), λ d. absurd (d refl))
+fault-numbers (ownJack j) = from-refused ofPattern 5 (atJack j) refl (inr (inr (inr (inl refl))))
 
 check-numbers : (p : List ℕ) → Refuses ofPattern (checkOf mostPorts p)
 unfolding checkAs
@@ -63,23 +67,27 @@ check-numbers p = from-sized ofPattern mostPorts (length p) _ (inl refl) (fault-
 -- 1 and then 6
 ranked-numbers : {A : Type 0} (n r : ℕ) (a : A) → Refuses (1 ∷ 6 ∷ []) (ranked n r (accepted a))
 unfolding ranked
-ranked-numbers n r a = from-cond (1 ∷ 6 ∷ []) (ltb r (count n)) _ _ (from-accepted (1 ∷ 6 ∷ []) a) (from-refused (1 ∷ 6 ∷ []) 6 nowhere (inr (inl refl)))
+ranked-numbers n r a = from-cond (1 ∷ 6 ∷ []) (ltb r (count n)) _ _ (from-accepted (1 ∷ 6 ∷ []) a) (from-refused (1 ∷ 6 ∷ []) 6 nowhere refl (inr (inl refl)))
 
 -- ---- the panel
 
 -- 1, 3 or 4, and 17 after them
 panel-numbers : {A : Type 0} (p : List ℕ) (fits : Bool) (a : A) → Refuses (1 ∷ 3 ∷ 4 ∷ 17 ∷ []) (onPanel mostPorts p fits a)
-panel-numbers p fits a k s e =
-    either (refusals mostPorts p fits a k s (sym e))
-    (λ h. either h inl (λ h. either h (λ x. inr (inl x)) (λ x. inr (inr (inl x)))))
-    (λ h. inr (inr (inr (inl (h .2)))))
+panel-numbers p fits a k s e = (
+  either (refusals mostPorts p fits a k s (sym e))
+      (λ h. either h inl (λ h. either h (λ x. inr (inl x)) (λ x. inr (inr (inl x)))))
+      (λ h. inr (inr (inr (inl (h .2))))),
+  panel-second p fits a k s e .other,
+)
 
 -- of the check alone there is no 17
 check-panel-numbers : (p : List ℕ) → Refuses (1 ∷ 3 ∷ 4 ∷ []) (checkAs false mostPorts p)
-check-panel-numbers p k s e =
-    either (refusals mostPorts p true (tt {0}) k s (panel-refused mostPorts p true (tt {0}) k s (sym e)))
-    (λ h. either h inl (λ h. either h (λ x. inr (inl x)) (λ x. inr (inr (inl x)))))
-    (λ h. absurd (true≢false (h .1)))
+check-panel-numbers p k s e = (
+  either (refusals mostPorts p true (tt {0}) k s (panel-refused mostPorts p true (tt {0}) k s (sym e)))
+      (λ h. either h inl (λ h. either h (λ x. inr (inl x)) (λ x. inr (inr (inl x)))))
+      (λ h. absurd (true≢false (h .1))),
+  check-second false mostPorts p k s e .other,
+)
 
 -- ---- order text
 
@@ -88,13 +96,13 @@ ofLine = 11 ∷ 7 ∷ 8 ∷ 17 ∷ []
 
 fitting-numbers : (ns : List ℕ) (l : Line) → OneOf ns 17 → Refuses ns (fitting mostPorts l)
 unfolding fitting
-fitting-numbers ns l h = from-cond ns (lineFits mostPorts l) _ _ (from-accepted ns l) (from-refused ns 17 nowhere h)
+fitting-numbers ns l h = from-cond ns (lineFits mostPorts l) _ _ (from-accepted ns l) (from-refused ns 17 nowhere refl h)
 
 keyed-numbers : (k : Kind) (o : Option (List ℕ)) (other : Told Line) → Refuses ofLine other → Refuses ofLine (keyed largest64 mostPorts k o other)
 unfolding numbersTold
 keyed-numbers k none other h = h
 keyed-numbers k (some v) other h =
-    from-then ofLine _ _ (from-need ofLine 8 nowhere (numbersIn largest64 (commas k) v) (inr (inr (inl refl))))
+    from-then ofLine _ _ (from-need ofLine 8 nowhere (numbersIn largest64 (commas k) v) refl (inr (inr (inl refl))))
     (λ x. fitting-numbers ofLine (lineOf k x) (inr (inr (inr (inl refl)))))
 
 line-numbers : (t : List ℕ) → Refuses ofLine (lineIn largest64 mostPorts t)
@@ -104,18 +112,18 @@ line-numbers t =
     (keyed-numbers turning (afterKey (key turning) t) _
     (keyed-numbers marking (afterKey (key marking) t) _
     (keyed-numbers ending (afterKey (key ending) t) _
-    (from-refused ofLine 7 nowhere (inr (inl refl))))))
+    (from-refused ofLine 7 nowhere refl (inr (inl refl))))))
 
 read-numbers : (t : List ℕ) (place : ℕ) → Refuses ofLine (readOf largest64 mostPorts t place)
 unfolding readOf
 read-numbers t place =
-    from-then ofLine _ _ (from-need ofLine 11 nowhere (cut newline (drop place t)) (inl refl))
+    from-then ofLine _ _ (from-need ofLine 11 nowhere (cut newline (drop place t)) refl (inl refl))
     (λ p. from-then ofLine _ _ (line-numbers (p .front)) (λ l. from-accepted ofLine _))
 
 -- a text that has to fit
 room-numbers : (ns : List ℕ) → OneOf ns 2 → (t buf : List ℕ) → Refuses ns (roomOf t buf)
 unfolding roomOf
-room-numbers ns h t buf = from-cond ns (leb (length t) (length buf)) _ _ (from-accepted ns _) (from-refused ns 2 nowhere h)
+room-numbers ns h t buf = from-cond ns (leb (length t) (length buf)) _ _ (from-accepted ns _) (from-refused ns 2 nowhere refl h)
 
 write-numbers : (l : Line) (buf : List ℕ) → Refuses (17 ∷ 2 ∷ []) (writeOf mostPorts l buf)
 unfolding writeOf
@@ -177,7 +185,7 @@ report-numbers o kind s =
 -- a state that is unfit
 status-numbers : (s : State) → Refuses (15 ∷ []) (statusOf s)
 unfolding statusOf
-status-numbers s = from-cond (15 ∷ []) (fit s) _ _ (from-accepted (15 ∷ []) (whereOf s)) (from-refused (15 ∷ []) 15 _ (inl refl))
+status-numbers s = from-cond (15 ∷ []) (fit s) _ _ (from-accepted (15 ∷ []) (whereOf s)) (from-refused (15 ∷ []) 15 nowhere refl (inl refl))
 
 -- the plan's numbers
 abbrev ofPlan : List ℕ
@@ -198,6 +206,15 @@ rehearsal-numbers room r =
     (answer-cond ofFill (ltb room (C .width (offer C m))) _ _ (answer-refusal ofFill 2 (inr (inl refl))) (offer-numbers ofFill (inl refl) C m)))
     (answer-refusal ofFill 15 (inl refl))
 
+-- and they name no place
+fill-nowhere : (n : ℕ) (a : model.Answer) → EachRefusal (λ k s. earlierNumber s ≡ 0) (stopTold n (sequel a))
+fill-nowhere n (movement o) = never _ _
+fill-nowhere n (mark m r) = never _ _
+fill-nowhere n (theEnd m) = never _ _
+fill-nowhere n taken = never _ _
+fill-nowhere zero (refusal k) = at-once _ k nowhere refl
+fill-nowhere (suc n) (refusal k) = never _ _
+
 -- a refused call leaves the state as it was, fit or not
 pub state-kept : (c : Call) (s : State) (k : ℕ) → answerOf c s ≡ refusal k → leftOf c s ≡ s
 unfolding leftOf
@@ -216,8 +233,10 @@ resume-numbers : (s : State) (p : List ℕ) → Refuses ofResume (resumeOf s p)
 unfolding resumeOf fitTold
 resume-numbers s p =
     from-then ofResume (checkAs false mostPorts p) _
-    (λ k q e. either (check-panel-numbers p k q e) inl (λ h. either h (λ x. inr (inl x)) (λ h. either h (λ x. inr (inr (inl x))) absurd)))
-    (λ x. from-cond ofResume (eqb (length p) (s .plan .ports) && fit (panelIn p s)) _ _ (from-accepted ofResume tt) (from-refused ofResume 15 nowhere (inr (inr (inr (inl refl))))))
+    (λ k q e.
+    let h = check-panel-numbers p k q e in
+    (either (h .0) inl (λ h. either h (λ x. inr (inl x)) (λ h. either h (λ x. inr (inr (inl x))) absurd)), h .1))
+    (λ x. from-cond ofResume (eqb (length p) (s .plan .ports) && fit (panelIn p s)) _ _ (from-accepted ofResume tt) (from-refused ofResume 15 nowhere refl (inr (inr (inr (inl refl))))))
 
 resume-kept : (s : State) (p : List ℕ) (k : ℕ) (q : Spot) → resumeOf s p ≡ refused k q → resumedOf s p ≡ s
 unfolding resumedOf
@@ -256,7 +275,7 @@ demand-one = record {
   resume = resume-numbers;
   resumeKeeps = resume-kept;
   rehearse = λ t. from-then ofPlan _ _ (plan-numbers device 1 t) (λ p. from-accepted ofPlan tt);
-  fill = λ room r k p e. rehearsal-numbers room r k (refused-first room (stateOf r) k p e);
+  fill = λ room r k p e. (rehearsal-numbers room r k (refused-first room (stateOf r) k p e), λ d. fill-nowhere (length (linesIn room (stateOf r) .text)) (linesIn room (stateOf r) .stop) k p e);
   fillKeeps = rehearsal-stays;
   fillBytesKeeps = λ r buf. line-bytes-stay (stateOf r) buf;
 }

@@ -21,9 +21,9 @@ field-numbers : (ns : List ℕ) (f : Field) (line : ℕ) (t : List ℕ) → OneO
 unfolding fieldIn lineIn
 field-numbers ns f line t e v z h =
     from-then ns _ _
-    (from-then ns _ _ (from-need ns 11 (atLine line) (cut newline t) e) (λ p. from-then ns _ _ (from-need ns 7 (atLine line) (afterKey (f .key) (p .front)) v) (λ w. from-accepted ns _)))
-    (λ p. from-then ns _ _ (from-need ns 8 (atLine line) (valueIn (f .sign) (f .largest) (p .front)) z)
-    (λ s. from-cond ns (between (f .low) (f .below) (s .magnitude)) _ _ (from-accepted ns _) (from-refused ns (f .refusal) _ h)))
+    (from-then ns _ _ (from-need ns 11 (atLine line) (cut newline t) refl e) (λ p. from-then ns _ _ (from-need ns 7 (atLine line) (afterKey (f .key) (p .front)) refl v) (λ w. from-accepted ns _)))
+    (λ p. from-then ns _ _ (from-need ns 8 (atLine line) (valueIn (f .sign) (f .largest) (p .front)) refl z)
+    (λ s. from-cond ns (between (f .low) (f .below) (s .magnitude)) _ _ (from-accepted ns _) (from-refused ns (f .refusal) (atLine line) refl h)))
 
 -- the numbers of a plan, in the paper's order
 abbrev ns : List ℕ
@@ -48,7 +48,7 @@ leg-numbers largest size line t =
 legs-numbers : (largest size left line : ℕ) (t : List ℕ) → Refuses ns (legsIn largest size left line t)
 unfolding legsIn
 legs-numbers largest size zero line [] = from-accepted ns []
-legs-numbers largest size zero line (b ∷ t) = from-refused ns 11 (atLine line) eleven
+legs-numbers largest size zero line (b ∷ t) = from-refused ns 11 (atLine line) refl eleven
 legs-numbers largest size (suc left) line t =
     from-then ns _ _ (leg-numbers largest size line t)
     (λ g. from-then ns _ _ (legs-numbers largest size left (suc (suc line)) (g .rest)) (λ ms. from-accepted ns _))

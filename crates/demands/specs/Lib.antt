@@ -1,6 +1,7 @@
--- Demand one; demand two; the robot of demand three; the calls of the order printer; one answer to each call; what
+-- Demand one; both jacks of a repeated port; demand two; the robot of demand three; the calls of the order printer; one answer to each call; what
 -- adds to covered.
 pub mod One
+pub mod Jacks
 pub mod Two
 pub mod Robot
 pub mod Words

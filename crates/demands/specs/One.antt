@@ -3,13 +3,13 @@
 -- Assumes nothing.
 use Prim.Native.Nat.{ℕ}
 use mathlib.Core.Path.{_≡_}
-use mathlib.Core.Logic.{_⊎_}
+use mathlib.Core.Logic.{_⊎_, _≢_}
 use mathlib.Core.Bool.{Bool, false}
 use mathlib.Core.List.{List, [], _∷_}
 use lib.IntN.{ℤ}
 use lib.ListN.{length}
 use Rattle.listing.specs.Limits.{mostPorts, largest64}
-use Rattle.words.specs.Told.{Told, Spot, accepted, refused, then}
+use Rattle.words.specs.Told.{Told, Spot, accepted, refused, earlierNumber, then}
 use Rattle.words.specs.declared.Line.{Line}
 use Rattle.pattern_check.specs.Calls.{checkAs, checkOf}
 use Rattle.patterns.specs.Calls.{countOf, rankOf, unrankOf, unrankBytes, besideOf, besideBytes, stepOf}
@@ -32,13 +32,21 @@ abbrev pub OneOf : List ℕ → ℕ → Type 0
 OneOf [] k = ⊥
 OneOf (n ∷ ns) k = (k ≡ n) ⊎ OneOf ns k
 
--- a call that tells this is accepted, or refused with one of these numbers
+-- so is each refusal that a call may tell
+abbrev pub EachRefusal : {A : Type 0} → (ℕ → Spot → Type 0) → Told A → Type 0
+EachRefusal Is t = (k : ℕ) (s : Spot) → t ≡ refused k s → Is k s
+
+-- refusal k is one of these numbers, and but for 4 its second number is 0 (request 7; of 4 it is what `demands.Jacks.BothJacks` says)
+abbrev pub Listed : List ℕ → ℕ → Spot → Type 0
+Listed ns k s = OneOf ns k × (k ≢ 4 → earlierNumber s ≡ 0)
+
+-- a call that tells this is accepted, or refused so
 abbrev pub Refuses : {A : Type 0} → List ℕ → Told A → Type 0
-Refuses ns t = (k : ℕ) (s : Spot) → t ≡ refused k s → OneOf ns k
+Refuses ns t = EachRefusal (Listed ns) t
 
 -- if it is refused, the bytes left are those found
 abbrev pub Keeps : {A : Type 0} → Told A → List ℕ → List ℕ → Type 0
-Keeps t left found = (k : ℕ) (s : Spot) → t ≡ refused k s → left ≡ found
+Keeps t left found = EachRefusal (λ k s. left ≡ found) t
 
 -- the same of the campaign's answers
 abbrev pub RefusesAs : List ℕ → Answer → Type 0

@@ -129,7 +129,7 @@ repeated-equal pattern p j i e = at-equal pattern p j i (fault-at pattern (lengt
 -- ---- what is told
 
 -- the refusals but 4 have 0
-none-second : (p : List ℕ) (k : ℕ) (s : Spot) → k ≢ 4 → earlierNumber s ≡ 0 → Second p k s
+pub none-second : (p : List ℕ) (k : ℕ) (s : Spot) → k ≢ 4 → earlierNumber s ≡ 0 → Second p k s
 none-second p k s d e = record { both = λ h. absurd (d h); other = λ h. e }
 
 -- what is told has the second number of the refusal that it is
