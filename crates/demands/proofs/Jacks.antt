@@ -14,7 +14,8 @@ use Rattle.words.specs.Told.{Told, accepted, refused, nowhere, toldAlone, then,
 use Rattle.words.proofs.Told.{then-passes, then-alone}
 use Rattle.pattern_check.specs.Calls.{checkAs, paperCheck}
 use Rattle.pattern_check.specs.Jacks.{Second}
-use Rattle.pattern_check.proofs.Jacks.{none-second, check-second, check-alone}
+use Rattle.pattern_check.proofs.Alone.{check-alone}
+use Rattle.pattern_check.proofs.Jacks.{none-second, check-second}
 use Rattle.patterns.specs.Calls.{rankOf, besideOf}
 use Rattle.panel.specs.Calls.{onPanel, portOf, jackOf, carryOf}
 use Rattle.campaign_state.specs.Fitness.{fit}

@@ -1,5 +1,5 @@
 -- Both jacks of a repeated port. The first fault stands at a jack, and the jacks before it have none (`fault-at`): so the earlier jack that holds the port is one
--- alone (`repeated-equal`), and the check names both (`check-second`). Without the second number it tells what the paper lists (`check-alone`).
+-- alone (`repeated-equal`), and the check names both (`check-second`).
 -- Assumes nothing.
 use mathlib.Core.Path.{_≡_, refl, sym, ap, subst, _∙_}
 use mathlib.Core.Logic.{_≢_}
@@ -13,9 +13,9 @@ use borrow.Author.Tests.{eqb-true, eqb-false}
 use Rattle.listing.specs.Numbers.{before}
 use Rattle.listing.specs.Pattern.{entry}
 use Rattle.listing.proofs.Numbers.{either, test, below?, same?, suc-before}
-use Rattle.words.specs.Told.{Told, Spot, nowhere, atJack, atJacks, earlierNumber, refused, toldAlone}
-use Rattle.pattern_check.specs.Faults.{Fault, sound, outside, repeated, ownJack, seek, earlier, faultAt, firstOf, faultFrom, faultOf, faultTold, paperTold}
-use Rattle.pattern_check.specs.Calls.{inSize, sized, checkAs, paperCheck}
+use Rattle.words.specs.Told.{Told, Spot, nowhere, atJack, atJacks, earlierNumber, refused}
+use Rattle.pattern_check.specs.Faults.{Fault, sound, outside, repeated, ownJack, seek, earlier, faultAt, firstOf, faultFrom, faultOf, faultTold}
+use Rattle.pattern_check.specs.Calls.{inSize, sized, checkAs}
 use Rattle.pattern_check.specs.Jacks.{Equal, Second}
 use Rattle.pattern_check.proofs.Sound.{Clean, sound-clean, fresh-apart}
 
@@ -152,15 +152,3 @@ told-second true pattern p (ownJack j) e = told-is p 5 (atJack j) (none-second p
 pub check-second : (pattern : Bool) (most : ℕ) (p : List ℕ) (k : ℕ) (s : Spot) → checkAs pattern most p ≡ refused k s → Second p k s
 unfolding checkAs sized
 check-second pattern most p k s e = told-second (inSize most (length p)) pattern p (faultOf pattern p) refl k s e
-
--- without it, the check tells what the paper lists
-pub check-alone : (pattern : Bool) (most : ℕ) (p : List ℕ) → toldAlone (checkAs pattern most p) ≡ paperCheck pattern most p
-unfolding checkAs paperCheck sized
-check-alone pattern most p = by (inSize most (length p)) (faultOf pattern p)
-  where
-    by : (size : Bool) (f : Fault) → toldAlone (cond size (faultTold f (tt {0})) (refused 1 nowhere)) ≡ cond size (paperTold f tt) (refused 1 nowhere)
-    by false f = refl
-    by true sound = refl
-    by true (outside j) = refl
-    by true (repeated j i) = refl
-    by true (ownJack j) = refl

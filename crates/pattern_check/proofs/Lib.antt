@@ -1,7 +1,8 @@
 pub mod Faults
 pub mod Sound
+pub mod Alone
 pub mod Jacks
-pub mod Cases
+pub mod Tried
 pub mod Calls
 pub mod Accepted
 pub mod Only
