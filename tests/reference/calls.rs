@@ -8,6 +8,7 @@ use std::fmt;
 pub enum Name {
     Version,
     RefusalWords { number: u8 },
+    RefusalSentence { number: u8 },
     Check,
     CheckPanel,
     Count { ports: u8 },
@@ -31,7 +32,8 @@ pub enum Name {
     Orders,
 }
 
-/// A call: its name, the bytes lent to it (a pattern, a panel, a text or a buffer) and the words (a line, a state or a rehearsal).
+/// A call: its name, the bytes lent to it (a pattern, a panel, a text or a buffer) and the words (a line, a state, a rehearsal or a
+/// refused answer).
 #[derive(Clone)]
 pub struct Call {
     pub name: Name,
@@ -80,6 +82,7 @@ impl fmt::Debug for Outcome {
 pub struct Side {
     version: fn(&mut Answer) -> u8,
     refusal_words: fn(u8, &mut [u8], &mut Answer) -> u8,
+    refusal_sentence: fn(u8, &Answer, &mut [u8], &mut Answer) -> u8,
     check: fn(&[u8], &mut Answer) -> u8,
     check_panel: fn(&[u8], &mut Answer) -> u8,
     count: fn(u8, &mut Answer) -> u8,
@@ -110,6 +113,7 @@ macro_rules! side {
         Side {
             version: calls::version,
             refusal_words: calls::refusal_words,
+            refusal_sentence: calls::refusal_sentence,
             check: calls::check,
             check_panel: calls::check_panel,
             count: calls::count,
@@ -180,9 +184,13 @@ impl Side {
         fn line(words: &[u64]) -> &[u64; 4] {
             words.try_into().expect("a line has four words")
         }
+        fn refused(words: &[u64]) -> &Answer {
+            words.try_into().expect("an answer has five words")
+        }
         let number = match call.name {
             Name::Version => (self.version)(answer),
             Name::RefusalWords { number } => (self.refusal_words)(number, bytes, answer),
+            Name::RefusalSentence { number } => (self.refusal_sentence)(number, refused(words), bytes, answer),
             Name::Check => (self.check)(bytes, answer),
             Name::CheckPanel => (self.check_panel)(bytes, answer),
             Name::Count { ports } => (self.count)(ports, answer),

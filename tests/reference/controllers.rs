@@ -1,4 +1,4 @@
-//! The self test's part on what a controller asks beside its orders: the version, a refusal in words, where a campaign is, a report that names its mark.
+//! The self test's part on what a controller asks beside its orders: the version, a refusal in words and as a sentence, where a campaign is, a report that names its mark.
 
 use crate::rules::at_mark;
 use crate::{Compared, PLAN};
@@ -17,7 +17,7 @@ fn words_of(number: u8) -> Vec<u8> {
 /// The version and the words of refusals, as the header has them.
 pub fn library(compared: &mut Compared) {
     let mut answer = [7; 5];
-    compared.same("the version", (told::version(&mut answer), answer), (0, [1, 0, 0, 0, 0]));
+    compared.same("the version", (told::version(&mut answer), answer), (0, [2, 0, 0, 0, 0]));
     let said: [(u8, &[u8]); 6] = [
         (0, b"accepted"),
         (2, b"does not fit the buffer"),
@@ -39,6 +39,60 @@ pub fn library(compared: &mut Compared) {
     compared.same("no refusal has a number above 17", all[18..].iter().all(|words| *words == all[18]), true);
     compared.same("the bytes of the longest", all.iter().map(Vec::len).max(), Some(49));
     compared.same("plain letters alone", all.concat().iter().all(|byte| (b' '..=b'~').contains(byte)), true);
+}
+
+/// Refusals as sentences: those of the header, each rule of it, and that a sentence is the words with something before and after them.
+pub fn sentences(compared: &mut Compared) {
+    let said: [(u8, [u64; 5], &str); 22] = [
+        (4, [5, 2, 0, 0, 0], "jack 5: entry equal to an earlier one, at jack 2"),
+        (4, [20, 19, 0, 0, 0], "jack 20: entry equal to an earlier one, at jack 19"),
+        (4, [5, 0, 0, 0, 0], "jack 5: entry equal to an earlier one"),
+        (4, [0, 2, 0, 0, 0], "entry equal to an earlier one, at jack 2"),
+        (4, [0; 5], "entry equal to an earlier one"),
+        (4, [5, 2, 7, 8, 9], "jack 5: entry equal to an earlier one, at jack 2"),
+        (4, [u64::MAX; 5], "jack 18446744073709551615: entry equal to an earlier one, at jack 18446744073709551615"),
+        (3, [3, 0, 0, 0, 0], "jack 3: entry outside the panel's ports"),
+        (3, [3, 2, 0, 0, 0], "jack 3: entry outside the panel's ports"),
+        (5, [1, 0, 0, 0, 0], "jack 1: entry equal to its own jack"),
+        (5, [0, 1, 0, 0, 0], "entry equal to its own jack"),
+        (9, [2, 0, 0, 0, 0], "line 2: legs not 1 to 16"),
+        (11, [7, 0, 0, 0, 0], "line 7: text ended early or went on"),
+        (6, [0; 5], "rank not below the count"),
+        (2, [0, 4, 0, 0, 0], "does not fit the buffer"),
+        (1, [1, 1, 0, 0, 0], "line 1: ports or length not 2 to 20"),
+        (15, [0; 5], "state unfit"),
+        (17, [u64::MAX; 5], "line 18446744073709551615: jack or port off the panel, or order out of shape"),
+        (0, [0; 5], "accepted"),
+        (0, [5, 2, 0, 0, 0], "accepted"),
+        (18, [5, 2, 0, 0, 0], "no refusal has this number"),
+        (255, [u64::MAX; 5], "no refusal has this number"),
+    ];
+    for (number, refused, sentence) in said {
+        let (mut buffer, mut answer, bytes) = ([b'.'; 90], [7; 5], sentence.len());
+        let short = told::refusal_sentence(number, &refused, &mut buffer[..bytes - 1], &mut answer);
+        compared.same("one byte short", (short, answer, buffer), (2, [0; 5], [b'.'; 90]));
+        let just = told::refusal_sentence(number, &refused, &mut buffer[..bytes], &mut answer);
+        compared.same("just room", (just, answer), (0, [bytes as u64, 0, 0, 0, 0]));
+        compared.same("the sentence", &buffer[..bytes], sentence.as_bytes());
+        compared.same("the bytes after it", &buffer[bytes..], &[b'.'; 90][bytes..]);
+    }
+    let mut longest = 0;
+    for number in 0..=255 {
+        for place in [0, 1, u64::MAX] {
+            for earlier in [0, 1, u64::MAX] {
+                let (mut buffer, mut answer) = ([b'.'; 90], [7; 5]);
+                told::refusal_sentence(number, &[place, earlier, 0, 0, 0], &mut buffer, &mut answer);
+                let (sentence, words) = (&buffer[..answer[0] as usize], words_of(number));
+                longest = longest.max(sentence.len());
+                let at = sentence.windows(words.len()).position(|part| part == words);
+                compared.same("the words stand in it", at.is_some(), true);
+                let (before, after) = (at.unwrap_or(0), sentence.len() - at.unwrap_or(0) - words.len());
+                compared.same("something before them", before > 0, place != 0 && (1..=17).contains(&number));
+                compared.same("something after them", after > 0, earlier != 0 && number == 4);
+            }
+        }
+    }
+    compared.same("the bytes of the longest sentence", longest, 86);
 }
 
 /// One call on the words of a state that must take it: a request, or a report of a kind.

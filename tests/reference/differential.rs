@@ -10,6 +10,7 @@ mod groups;
 mod inputs;
 
 use calls::{Call, Outcome, LIBRARY, REFERENCE};
+use face::Answer;
 use groups::{Group, Work, GROUPS};
 use inputs::Rng;
 use std::collections::BTreeMap;
@@ -56,6 +57,14 @@ impl Harness {
             self.differ(&call, &found, &wanted);
         }
         wanted
+    }
+
+    /// One call on both sides, of which number and answer are known besides: a reference that is wrong where the library is would be seen.
+    fn compare_known(&mut self, call: Call, number: u8, answer: Answer) {
+        let found = self.compare(call.clone());
+        if (found.number, found.answer) != (number, answer) {
+            self.differ(&format!("the reference beside what is known: {call:?}"), &found, &(number, answer));
+        }
     }
 
     /// What was made by hand on both sides, with the number that it counts under.

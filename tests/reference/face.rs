@@ -8,6 +8,7 @@ pub mod raw {
     extern "C" {
         pub fn jidrofex_version(answer: *mut u64) -> u8;
         pub fn jidrofex_refusal_words(number: u8, buffer: *mut u8, bytes: usize, answer: *mut u64) -> u8;
+        pub fn jidrofex_refusal_sentence(number: u8, refused: *const u64, buffer: *mut u8, bytes: usize, answer: *mut u64) -> u8;
         pub fn jidrofex_check(pattern: *const u8, ports: usize, answer: *mut u64) -> u8;
         pub fn jidrofex_check_panel(panel: *const u8, ports: usize, answer: *mut u64) -> u8;
         pub fn jidrofex_count(ports: u8, answer: *mut u64) -> u8;
@@ -38,6 +39,10 @@ pub fn version(answer: &mut Answer) -> u8 {
 
 pub fn refusal_words(number: u8, buffer: &mut [u8], answer: &mut Answer) -> u8 {
     unsafe { raw::jidrofex_refusal_words(number, buffer.as_mut_ptr(), buffer.len(), answer.as_mut_ptr()) }
+}
+
+pub fn refusal_sentence(number: u8, refused: &Answer, buffer: &mut [u8], answer: &mut Answer) -> u8 {
+    unsafe { raw::jidrofex_refusal_sentence(number, refused.as_ptr(), buffer.as_mut_ptr(), buffer.len(), answer.as_mut_ptr()) }
 }
 
 pub fn check(pattern: &[u8], answer: &mut Answer) -> u8 {

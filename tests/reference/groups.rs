@@ -6,6 +6,8 @@ mod fixed;
 mod made;
 mod numbered;
 mod rehearsals;
+mod repeated;
+mod sentences;
 
 use crate::calls::Name;
 use crate::inputs::Rng;
@@ -15,6 +17,8 @@ use fixed::*;
 use made::*;
 use numbered::*;
 use rehearsals::*;
+use repeated::*;
+use sentences::*;
 
 pub enum Work {
     /// A fixed set of cases.
@@ -30,7 +34,7 @@ pub struct Group {
     pub meets: &'static [u8],
 }
 
-pub const GROUPS: [Group; 39] = [
+pub const GROUPS: [Group; 42] = [
     Group { name: "library", work: Work::Whole(library), meets: &[0, 2] },
     Group { name: "count", work: Work::Whole(count), meets: &[0, 1] },
     Group { name: "circuits", work: Work::Whole(circuits), meets: &[0] },
@@ -70,4 +74,8 @@ pub const GROUPS: [Group; 39] = [
     Group { name: "rehearsals", work: Work::Share(3, rehearsals), meets: &[0, 2, 15] },
     Group { name: "damaged rehearsals", work: Work::Share(4, damaged_rehearsals), meets: &[0, 2, 15] },
     Group { name: "random rehearsals", work: Work::Share(2, random_rehearsals), meets: &[0, 15] },
+    // fixed sets too, after the shares so that these are not smaller for them
+    Group { name: "both jacks", work: Work::Whole(both_jacks), meets: &[3, 4, 5] },
+    Group { name: "numbers and places", work: Work::Whole(numbers_and_places), meets: &[3, 4, 5] },
+    Group { name: "sentences", work: Work::Whole(sentences), meets: &[0, 2] },
 ];

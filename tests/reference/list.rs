@@ -1,6 +1,6 @@
 //! The list of document 000, as the paper's section 'The list' says it.
 
-use crate::{refusal, refusal_at, Refusal, MOST_PORTS};
+use crate::{refusal, refusal_at, repeated, Refusal, MOST_PORTS};
 
 /// 'The count is 0 for n = 1, 1 for n = 2, then (n-1) times the sum of the two before.'
 pub fn count_of(n: usize) -> u128 {
@@ -175,7 +175,7 @@ pub fn apply(made: Move, panel: &mut [u8]) {
     }
 }
 
-/// 1 first; then the jacks from 1, each for 3 and 4, and for 5 unless it is a panel.
+/// 1 first; then the jacks from 1, each for 3 and 4, and for 5 unless it is a panel. With 4 the first earlier jack is said whose entry is equal.
 fn check_as(p: &[u8], self_joins: bool) -> Result<(), Refusal> {
     if !(2..=MOST_PORTS).contains(&p.len()) {
         return Err(refusal(1));
@@ -185,8 +185,8 @@ fn check_as(p: &[u8], self_joins: bool) -> Result<(), Refusal> {
         if port < 1 || port as usize > p.len() {
             return Err(refusal_at(3, jack));
         }
-        if p[..j].contains(&port) {
-            return Err(refusal_at(4, jack));
+        if let Some(earlier) = p[..j].iter().position(|&before| before == port) {
+            return Err(repeated(jack, earlier as u64 + 1));
         }
         if !self_joins && port as u64 == jack {
             return Err(refusal_at(5, jack));

@@ -11,7 +11,7 @@ use crate::Refusal;
 /// `refused=` with the number, a newline, `at=` with the place, a newline.'
 pub fn print(input: &[u8]) -> Vec<u8> {
     match read_plan(&input[..input.len().min(1024)]) {
-        Err(Refusal { number, place }) => format!("refused={number}\nat={place}\n").into_bytes(),
+        Err(Refusal { number, place, .. }) => format!("refused={number}\nat={place}\n").into_bytes(),
         Ok(plan) => print_plan(plan),
     }
 }

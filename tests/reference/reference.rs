@@ -5,7 +5,7 @@
 //! - `circuit`: the list once more, as document 000's procedures gen_up and gen_down produce it, pattern by pattern
 //! - `relations`: one neighbour by relations (3) to (9), without walking the list: the plain Rust that the speed table times
 //! - `panel`: look-ups and orders carried out
-//! - `text`: numbers, order lines, and refusals in words
+//! - `text`: numbers, order lines, refusals in words and as sentences
 //! - `plan`: the reading of plans
 //! - `campaign`: the state, its fitness, where it is, request, report, a report by number, and going on after a power cut
 //! - `printer`: the order printer
@@ -24,22 +24,28 @@ pub mod text;
 pub mod told;
 
 /// The version of include/jidrofex.h that this is the reference of.
-pub const VERSION: u64 = 1;
+pub const VERSION: u64 = 2;
 
 pub const MOST_PORTS: usize = 20;
 pub const MOST_LEGS: usize = 16;
 pub const MOST_ERRORS: u128 = 65_535;
 
-/// A refusal: the paper's number, and the place, 0 where none is said.
+/// A refusal: the paper's number; the place, 0 where none is said; and for 4 the jack of the earlier equal entry, else 0.
 #[derive(Clone, Copy, Debug, PartialEq, Eq)]
 pub struct Refusal {
     pub number: u8,
     pub place: u64,
+    pub earlier: u64,
 }
 
 /// A refusal at a jack, or at a line of a plan.
 pub fn refusal_at(number: u8, place: u64) -> Refusal {
-    Refusal { number, place }
+    Refusal { number, place, earlier: 0 }
+}
+
+/// The refusal of an entry at a jack that is equal to the one at an earlier jack.
+pub fn repeated(jack: u64, earlier: u64) -> Refusal {
+    Refusal { number: 4, place: jack, earlier }
 }
 
 /// A refusal at no place.

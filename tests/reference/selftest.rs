@@ -1,9 +1,10 @@
 //! The reference held to what is printed: document 000's tables for 4 and 5 ports, the paper's 'Cases to prove' and 'To run', the paper's example;
-//! to the rules of a campaign, the header's words for controllers, and demand three on full circuits; and to itself: three ways to the list (the
-//! definition, the procedures, the relations) over every circuit of 2 to 8 ports.
+//! to the rules of a campaign, the header's words for controllers, both jacks of a repeated entry for every pair of jacks, and demand three on full
+//! circuits; and to itself: three ways to the list (the definition, the procedures, the relations) over every circuit of 2 to 8 ports.
 //! Ends in a line with the number of comparisons, or in the first one that does not hold.
 
 mod controllers;
+mod jacks;
 mod rules;
 mod tables;
 
@@ -40,7 +41,12 @@ fn pattern(row: &str) -> Vec<u8> {
 }
 
 fn refused<T>(number: u8, place: u64) -> Result<T, Refusal> {
-    Err(Refusal { number, place })
+    Err(Refusal { number, place, earlier: 0 })
+}
+
+/// Refused as repeated, with both jacks.
+fn refused_both<T>(jack: u64, earlier: u64) -> Result<T, Refusal> {
+    Err(Refusal { number: 4, place: jack, earlier })
 }
 
 fn cases_to_prove(compared: &mut Compared) {
@@ -61,7 +67,7 @@ fn cases_to_prove(compared: &mut Compared) {
 
 fn to_run(compared: &mut Compared) {
     compared.same("(1,1)", check(&[1, 1]), refused(5, 1));
-    compared.same("(2,2)", check(&[2, 2]), refused(4, 2));
+    compared.same("(2,2)", check(&[2, 2]), refused_both(2, 1));
     compared.same("(3,1)", check(&[3, 1]), refused(3, 1));
     compared.same("20 ports", check(&at(20, 0)), Ok(()));
     compared.same("21 ports", check(&[1; 21]), refused(1, 0));
@@ -195,10 +201,13 @@ fn main() {
     tables::tables(&mut compared);
     cases_to_prove(&mut compared);
     to_run(&mut compared);
+    jacks::pairs(&mut compared);
+    jacks::other_faults(&mut compared);
     order_lines(&mut compared);
     rules::campaign(&mut compared);
     rules::power_cuts(&mut compared);
     controllers::library(&mut compared);
+    controllers::sentences(&mut compared);
     controllers::status(&mut compared);
     controllers::report_refusals(&mut compared);
     controllers::sent_twice(&mut compared);

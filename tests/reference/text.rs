@@ -86,10 +86,36 @@ const SAID: [&str; 18] = [
     "jack or port off the panel, or order out of shape",
 ];
 
+/// The words of a number, which need not be that of a refusal.
+fn said(number: u8) -> &'static str {
+    SAID.get(usize::from(number)).unwrap_or(&"no refusal has this number")
+}
+
 /// The words of a refusal at the front of a buffer, with no newline; answers how many bytes they take, or 2 where they do not fit.
 pub fn refusal_words(number: u8, buffer: &mut [u8]) -> Result<usize, Refusal> {
-    let words = SAID.get(usize::from(number)).unwrap_or(&"no refusal has this number");
-    put(words.as_bytes(), buffer)
+    put(said(number).as_bytes(), buffer)
+}
+
+/// A refusal as a sentence. 'Before the words of the number stands where the fault is, "jack 5: " for 3, 4 and 5, "line 7: " for any other refusal, nothing
+/// where the first word is 0; after those of 4 stands where the other one is, ", at jack 2", and nothing where the second word is 0. Of 0, and of a number
+/// that no refusal has, the sentence is the words alone.'
+pub fn sentence(of: Refusal) -> String {
+    let Refusal { number, place, earlier } = of;
+    let before = match (number, place) {
+        (0 | 18.., _) | (_, 0) => String::new(),
+        (3..=5, _) => format!("jack {place}: "),
+        _ => format!("line {place}: "),
+    };
+    let after = match (number, earlier) {
+        (4, 1..) => format!(", at jack {earlier}"),
+        _ => String::new(),
+    };
+    [&before, said(number), &after].concat()
+}
+
+/// That sentence at the front of a buffer, with no newline; answers how many bytes it takes, or 2 where it does not fit.
+pub fn refusal_sentence(of: Refusal, buffer: &mut [u8]) -> Result<usize, Refusal> {
+    put(sentence(of).as_bytes(), buffer)
 }
 
 /// The line that starts at a place, and the place after its newline. 'Checks: newline (11, also at or past the end of the slice), key with its `=`

@@ -9,15 +9,16 @@ use crate::{list, panel, refusal, text, Refusal, VERSION};
 
 pub type Answer = [u64; 5];
 
-/// 'Accepted: the values that the call names, then zeros. Refused: the place, then zeros.'
+/// 'Accepted: the values that the call names, then zeros. Refused: the place, then a second number: for 4 the jack of the earlier equal entry, for every
+/// other refusal 0; then zeros.'
 fn tell(told: Result<Answer, Refusal>, answer: &mut Answer) -> u8 {
     match told {
         Ok(values) => {
             *answer = values;
             0
         }
-        Err(Refusal { number, place }) => {
-            *answer = [place, 0, 0, 0, 0];
+        Err(Refusal { number, place, earlier }) => {
+            *answer = [place, earlier, 0, 0, 0];
             number
         }
     }
@@ -68,6 +69,12 @@ pub fn version(answer: &mut Answer) -> u8 {
 
 pub fn refusal_words(number: u8, buffer: &mut [u8], answer: &mut Answer) -> u8 {
     tell(text::refusal_words(number, buffer).map(|bytes| one(bytes as u64)), answer)
+}
+
+/// 'The answer of the call that was refused, of which the first two words are looked at.'
+pub fn refusal_sentence(number: u8, refused: &Answer, buffer: &mut [u8], answer: &mut Answer) -> u8 {
+    let [place, earlier, ..] = *refused;
+    tell(text::refusal_sentence(Refusal { number, place, earlier }, buffer).map(|bytes| one(bytes as u64)), answer)
 }
 
 pub fn check(pattern: &[u8], answer: &mut Answer) -> u8 {
