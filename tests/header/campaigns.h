@@ -301,11 +301,18 @@ static void resumes(const char *what, const char *ports)
     left(on(what, ports));
 }
 
-static void does_not_resume(const char *what, const char *ports, uint8_t wanted, uint64_t place)
+static void does_not_resume(const char *what, const char *ports, fault wanted)
 {
-    refused(on(what, ports), jidrofex_resume(state, JIDROFEX_STATE_WORDS, laid(ports), strlen(ports), fresh()), wanted, place);
+    faulted(on(what, ports), jidrofex_resume(state, JIDROFEX_STATE_WORDS, laid(ports), strlen(ports), fresh()), wanted);
     stands(on(what, ports), ports);
     left(on(what, ports));
+}
+
+/* The state is unfit with this panel. */
+static void is_unfit_with(const char *what, const char *ports)
+{
+    const fault wanted = {JIDROFEX_REFUSED_UNFIT, 0, 0};
+    does_not_resume(what, ports, wanted);
 }
 
 /* Words that are no state, and states that are unfit: each call on a state refuses them before all else, and leaves them. */
@@ -325,7 +332,8 @@ static void unfit_with_any_panel(const char *what, size_t words)
 {
     unfit(what, words);
     refused(on("resume", what), jidrofex_resume(state, words, laid("2341"), 4, fresh()), JIDROFEX_REFUSED_UNFIT, 0);
-    refused(on("resume with no panel", what), jidrofex_resume(state, words, laid("2241"), 4, fresh()), JIDROFEX_REFUSED_REPEATED, 2);
+    refused_with(on("resume with no panel", what), jidrofex_resume(state, words, laid("2241"), 4, fresh()), JIDROFEX_REFUSED_REPEATED, 2, 1);
+    refused_with(on("resume with no panel", what), jidrofex_resume(state, words, laid("2342"), 4, fresh()), JIDROFEX_REFUSED_REPEATED, 4, 1);
     left(what);
 }
 
@@ -388,14 +396,17 @@ static void going_on(void)
     set_example(JIDROFEX_STATE_WORDS);
     resumes("resume before the first mark", "1234");
     for (k = 0; k < sizeof faults / sizeof faults[0]; k++)
-        if (faults[k].as_panel != JIDROFEX_ACCEPTED)
-            does_not_resume("resume before the first mark", faults[k].ports, faults[k].as_panel, faults[k].panel_place);
-    does_not_resume("resume on other ports", "21", JIDROFEX_REFUSED_UNFIT, 0);
+        if (faults[k].as_panel.number != JIDROFEX_ACCEPTED)
+            does_not_resume("resume before the first mark", faults[k].ports, faults[k].as_panel);
+    is_unfit_with("resume on other ports", "21");
     resumes("resume before the first mark", "2341");
 
     /* while a mark stands, its pattern alone */
     mark_is(0, 0, "mark=0,0\n");
-    does_not_resume("resume at a mark", "3421", JIDROFEX_REFUSED_UNFIT, 0);
+    is_unfit_with("resume at a mark", "3421");
+    for (k = 0; k < sizeof faults / sizeof faults[0]; k++)
+        if (faults[k].as_panel.number != JIDROFEX_ACCEPTED)
+            does_not_resume("resume at a mark", faults[k].ports, faults[k].as_panel);
     resumes("resume at a mark", "2341");
 
     /* then the order was handed out: the robot obeyed or did not, and nothing else */
@@ -403,7 +414,7 @@ static void going_on(void)
     want_next(0, 1);
     reported("ran", JIDROFEX_RAN);
     movement_is(JIDROFEX_TURN, 1, 2, 3, "turn=1,2,3\n", "3421");
-    does_not_resume("resume after an order", "4321", JIDROFEX_REFUSED_UNFIT, 0);
+    is_unfit_with("resume after an order", "4321");
     resumes("resume after an order", "2341");
     movement_is(JIDROFEX_TURN, 1, 2, 3, "turn=1,2,3\n", "3421");
     resumes("resume after an order", "3421");

@@ -112,9 +112,15 @@ static void gives_nothing(const char *what, uint8_t found)
     gives(what, found, 0, 0, 0, 0, 0);
 }
 
+/* Refused, with the place and the second number. */
+static void refused_with(const char *what, uint8_t found, uint8_t wanted, uint64_t place, uint64_t earlier)
+{
+    told(what, found, wanted, place, earlier, 0, 0, 0);
+}
+
 static void refused(const char *what, uint8_t found, uint8_t wanted, uint64_t place)
 {
-    told(what, found, wanted, place, 0, 0, 0, 0);
+    refused_with(what, found, wanted, place, 0);
 }
 
 /* ---- buffers */

@@ -16,6 +16,8 @@ int main(void)
     const reader begin = {"begin", jidrofex_begin, JIDROFEX_STATE_WORDS};
     const reader rehearse = {"rehearse", jidrofex_rehearse, JIDROFEX_REHEARSAL_WORDS};
     the_library();
+    refusal_sentences();
+    sentence_of_a_refusal();
     pattern_faults();
     pattern_ranks();
     pattern_counts();

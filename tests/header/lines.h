@@ -87,11 +87,17 @@ static void panel_faults(void)
     for (k = 0; k < sizeof faults / sizeof faults[0]; k++) {
         const char *ports = faults[k].ports;
         size_t n = strlen(ports);
-        if (faults[k].as_panel != JIDROFEX_ACCEPTED) {
-            refused(on("port_at", ports), jidrofex_port_at(laid(ports), n, 0, fresh()), faults[k].as_panel, faults[k].panel_place);
-            refused(on("jack_of", ports), jidrofex_jack_of(laid(ports), n, 0, fresh()), faults[k].as_panel, faults[k].panel_place);
-            refused(on("carry", ports), jidrofex_carry(laid(ports), n, line_of(JIDROFEX_SWAP, 2, 1, 0), fresh()), faults[k].as_panel, faults[k].panel_place);
+        if (faults[k].as_panel.number != JIDROFEX_ACCEPTED) {
+            faulted(on("port_at", ports), jidrofex_port_at(laid(ports), n, 0, fresh()), faults[k].as_panel);
+            stands(on("port_at", ports), ports);
+            faulted(on("jack_of", ports), jidrofex_jack_of(laid(ports), n, 0, fresh()), faults[k].as_panel);
+            stands(on("jack_of", ports), ports);
+            faulted(on("port_at jack 1", ports), jidrofex_port_at(laid(ports), n, 1, fresh()), faults[k].as_panel);
+            faulted(on("jack_of port 1", ports), jidrofex_jack_of(laid(ports), n, 1, fresh()), faults[k].as_panel);
+            faulted(on("carry", ports), jidrofex_carry(laid(ports), n, line_of(JIDROFEX_SWAP, 2, 1, 0), fresh()), faults[k].as_panel);
             stands(on("carry", ports), ports);
+            faulted(on("carry a swap", ports), jidrofex_carry(laid(ports), n, line_of(JIDROFEX_SWAP, 1, 2, 0), fresh()), faults[k].as_panel);
+            stands(on("carry a swap", ports), ports);
         }
     }
 }

@@ -49,30 +49,166 @@ static void the_library(void)
     refused("refusal_words with no buffer", jidrofex_refusal_words(JIDROFEX_ACCEPTED, NULL, 0, fresh()), JIDROFEX_REFUSED_ROOM, 0);
 }
 
+/* ---- refusals as sentences */
+
+/* Known sentences, by number and the first two words of the refused answer, in digits: of every refusal with a place, and of those that have none where it is 0. */
+static const struct {
+    uint8_t number;
+    const char *place, *earlier;
+    const char *sentence;
+} sentences[] = {
+    {JIDROFEX_ACCEPTED, "0", "0", "accepted"},
+    {JIDROFEX_ACCEPTED, "5", "2", "accepted"},
+    {JIDROFEX_REFUSED_PORTS, "0", "0", "ports or length not 2 to 20"},
+    {JIDROFEX_REFUSED_PORTS, "1", "0", "line 1: ports or length not 2 to 20"},
+    {JIDROFEX_REFUSED_ROOM, "0", "0", "does not fit the buffer"},
+    {JIDROFEX_REFUSED_ROOM, "10", "0", "line 10: does not fit the buffer"},
+    {JIDROFEX_REFUSED_OUTSIDE, "3", "0", "jack 3: entry outside the panel's ports"},
+    {JIDROFEX_REFUSED_OUTSIDE, "3", "2", "jack 3: entry outside the panel's ports"},
+    {JIDROFEX_REFUSED_REPEATED, "5", "2", "jack 5: entry equal to an earlier one, at jack 2"},
+    {JIDROFEX_REFUSED_REPEATED, "20", "19", "jack 20: entry equal to an earlier one, at jack 19"},
+    {JIDROFEX_REFUSED_REPEATED, "5", "0", "jack 5: entry equal to an earlier one"},
+    {JIDROFEX_REFUSED_REPEATED, "0", "2", "entry equal to an earlier one, at jack 2"},
+    {JIDROFEX_REFUSED_REPEATED, "0", "0", "entry equal to an earlier one"},
+    {JIDROFEX_REFUSED_REPEATED, "256", "257", "jack 256: entry equal to an earlier one, at jack 257"},
+    {JIDROFEX_REFUSED_REPEATED, "18446744073709551615", "18446744073709551614",
+     "jack 18446744073709551615: entry equal to an earlier one, at jack 18446744073709551614"},
+    {JIDROFEX_REFUSED_OWN_JACK, "1", "0", "jack 1: entry equal to its own jack"},
+    {JIDROFEX_REFUSED_OWN_JACK, "0", "1", "entry equal to its own jack"},
+    {JIDROFEX_REFUSED_RANK, "0", "0", "rank not below the count"},
+    {JIDROFEX_REFUSED_RANK, "3", "0", "line 3: rank not below the count"},
+    {JIDROFEX_REFUSED_KEY, "1", "0", "line 1: not the key that belongs here"},
+    {JIDROFEX_REFUSED_NUMBER, "4", "0", "line 4: number badly written or too large"},
+    {JIDROFEX_REFUSED_LEGS, "2", "0", "line 2: legs not 1 to 16"},
+    {JIDROFEX_REFUSED_RUN, "4", "0", "line 4: run too long"},
+    {JIDROFEX_REFUSED_ENDED, "0", "0", "text ended early or went on"},
+    {JIDROFEX_REFUSED_ENDED, "35", "0", "line 35: text ended early or went on"},
+    {JIDROFEX_REFUSED_NO_MARK, "0", "0", "report of a mark that does not stand"},
+    {JIDROFEX_REFUSED_NO_MARK, "7", "7", "line 7: report of a mark that does not stand"},
+    {JIDROFEX_REFUSED_MARK_STANDS, "0", "0", "request while a mark stands"},
+    {JIDROFEX_REFUSED_MARK_STANDS, "7", "7", "line 7: request while a mark stands"},
+    {JIDROFEX_REFUSED_KIND, "0", "0", "report kind above 2"},
+    {JIDROFEX_REFUSED_KIND, "7", "7", "line 7: report kind above 2"},
+    {JIDROFEX_REFUSED_UNFIT, "0", "0", "state unfit"},
+    {JIDROFEX_REFUSED_UNFIT, "7", "7", "line 7: state unfit"},
+    {JIDROFEX_REFUSED_ERRORS, "0", "0", "error reported when 65,535 are counted"},
+    {JIDROFEX_REFUSED_ERRORS, "7", "7", "line 7: error reported when 65,535 are counted"},
+    {JIDROFEX_REFUSED_SHAPE, "0", "0", "jack or port off the panel, or order out of shape"},
+    {JIDROFEX_REFUSED_SHAPE, "18446744073709551615", "18446744073709551615",
+     "line 18446744073709551615: jack or port off the panel, or order out of shape"},
+    {JIDROFEX_REFUSED_SHAPE + 1, "5", "2", "no refusal has this number"},
+    {255, "5", "2", "no refusal has this number"}
+};
+
+/* A refused answer, whose words after the second are not looked at. */
+static uint64_t refused_answer[WHOLE];
+
+static const uint64_t *refused_of(uint64_t place, uint64_t earlier)
+{
+    fill_words(refused_answer);
+    refused_answer[0] = place;
+    refused_answer[1] = earlier;
+    return refused_answer;
+}
+
+/* The refused answer that was passed is as it was. */
+static void refused_stays(const char *what, uint64_t place, uint64_t earlier)
+{
+    uint64_t words[WHOLE];
+    fill_words(words);
+    words[0] = place;
+    words[1] = earlier;
+    same_words(what, refused_answer, words);
+}
+
+static void refusal_sentences(void)
+{
+    size_t k, longest = 0;
+    for (k = 0; k < sizeof sentences / sizeof sentences[0]; k++) {
+        uint64_t place = number(sentences[k].place), earlier = number(sentences[k].earlier);
+        const char *text = sentences[k].sentence;
+        size_t bytes = strlen(text);
+        if (longest < bytes)
+            longest = bytes;
+        gives_one(on("refusal_sentence", text),
+                  jidrofex_refusal_sentence(sentences[k].number, refused_of(place, earlier), room(), JIDROFEX_SENTENCE_BYTES, fresh()), bytes);
+        written(on("refusal_sentence", text), text);
+        refused_stays(on("refusal_sentence", text), place, earlier);
+        gives_one(on("refusal_sentence in just the room", text),
+                  jidrofex_refusal_sentence(sentences[k].number, refused_of(place, earlier), room(), bytes, fresh()), bytes);
+        written(on("refusal_sentence in just the room", text), text);
+        refused(on("refusal_sentence in a byte less", text),
+                jidrofex_refusal_sentence(sentences[k].number, refused_of(place, earlier), room(), bytes - 1, fresh()), JIDROFEX_REFUSED_ROOM, 0);
+        written(on("refusal_sentence in a byte less", text), "");
+        refused_stays(on("refusal_sentence in a byte less", text), place, earlier);
+    }
+    same("the longest sentence", longest, JIDROFEX_SENTENCE_BYTES);
+    refused("refusal_sentence with no buffer", jidrofex_refusal_sentence(JIDROFEX_REFUSED_REPEATED, refused_of(5, 2), NULL, 0, fresh()),
+            JIDROFEX_REFUSED_ROOM, 0);
+    refused("refusal_sentence of 0 with no buffer", jidrofex_refusal_sentence(JIDROFEX_ACCEPTED, refused_of(0, 0), NULL, 0, fresh()), JIDROFEX_REFUSED_ROOM, 0);
+}
+
+/* The answer of a refused call as it stands: the header's own example. */
+static void sentence_of_a_refusal(void)
+{
+    static const char said[] = "jack 5: entry equal to an earlier one, at jack 2";
+    uint64_t of_check[WHOLE];
+    uint8_t number_of_check = jidrofex_check(laid("23453"), 5, fresh());
+    memcpy(of_check, answer, sizeof of_check);
+    gives_one("refusal_sentence of what was refused",
+              jidrofex_refusal_sentence(number_of_check, of_check, room(), JIDROFEX_SENTENCE_BYTES, fresh()), strlen(said));
+    written("refusal_sentence of what was refused", said);
+}
+
 /* ---- patterns */
 
-/* Jacks are tried from 1, each for an entry outside 1..n, equal to an earlier one, equal to its own jack (as a pattern alone): the first at fault decides. */
+/* Jacks are tried from 1, each for an entry outside 1..n, equal to an earlier one, equal to its own jack (as a pattern alone): the first at fault decides. With an
+ * equal entry stands the jack of the earlier one, with any other fault 0. */
+typedef struct {
+    uint8_t number;
+    uint8_t place;
+    uint8_t earlier;
+} fault;
+
 static const struct {
     const char *ports;
-    uint8_t as_pattern;
-    uint8_t pattern_place;
-    uint8_t as_panel;
-    uint8_t panel_place;
+    fault as_pattern;
+    fault as_panel;
 } faults[] = {
-    {"", JIDROFEX_REFUSED_PORTS, 0, JIDROFEX_REFUSED_PORTS, 0},
-    {"1", JIDROFEX_REFUSED_PORTS, 0, JIDROFEX_REFUSED_PORTS, 0},
-    {"23456789abcdefghijkl1", JIDROFEX_REFUSED_PORTS, 0, JIDROFEX_REFUSED_PORTS, 0},
-    {"31", JIDROFEX_REFUSED_OUTSIDE, 1, JIDROFEX_REFUSED_OUTSIDE, 1},
-    {"20", JIDROFEX_REFUSED_OUTSIDE, 2, JIDROFEX_REFUSED_OUTSIDE, 2},
-    {"22", JIDROFEX_REFUSED_REPEATED, 2, JIDROFEX_REFUSED_REPEATED, 2},
-    {"11", JIDROFEX_REFUSED_OWN_JACK, 1, JIDROFEX_REFUSED_REPEATED, 2},
-    {"2311", JIDROFEX_REFUSED_REPEATED, 4, JIDROFEX_REFUSED_REPEATED, 4},
-    {"3132", JIDROFEX_REFUSED_REPEATED, 3, JIDROFEX_REFUSED_REPEATED, 3},
-    {"1255", JIDROFEX_REFUSED_OWN_JACK, 1, JIDROFEX_REFUSED_OUTSIDE, 3},
-    {"12", JIDROFEX_REFUSED_OWN_JACK, 1, JIDROFEX_ACCEPTED, 0},
-    {"2134", JIDROFEX_REFUSED_OWN_JACK, 3, JIDROFEX_ACCEPTED, 0},
-    {"23456789abcdefghij1k", JIDROFEX_REFUSED_OWN_JACK, 20, JIDROFEX_ACCEPTED, 0}
+    {"", {JIDROFEX_REFUSED_PORTS, 0, 0}, {JIDROFEX_REFUSED_PORTS, 0, 0}},
+    {"1", {JIDROFEX_REFUSED_PORTS, 0, 0}, {JIDROFEX_REFUSED_PORTS, 0, 0}},
+    {"23456789abcdefghijkl1", {JIDROFEX_REFUSED_PORTS, 0, 0}, {JIDROFEX_REFUSED_PORTS, 0, 0}},
+    {"22222222222222222222l", {JIDROFEX_REFUSED_PORTS, 0, 0}, {JIDROFEX_REFUSED_PORTS, 0, 0}},
+    {"31", {JIDROFEX_REFUSED_OUTSIDE, 1, 0}, {JIDROFEX_REFUSED_OUTSIDE, 1, 0}},
+    {"20", {JIDROFEX_REFUSED_OUTSIDE, 2, 0}, {JIDROFEX_REFUSED_OUTSIDE, 2, 0}},
+    {"22", {JIDROFEX_REFUSED_REPEATED, 2, 1}, {JIDROFEX_REFUSED_REPEATED, 2, 1}},
+    {"11", {JIDROFEX_REFUSED_OWN_JACK, 1, 0}, {JIDROFEX_REFUSED_REPEATED, 2, 1}},
+    {"2311", {JIDROFEX_REFUSED_REPEATED, 4, 3}, {JIDROFEX_REFUSED_REPEATED, 4, 3}},
+    {"3132", {JIDROFEX_REFUSED_REPEATED, 3, 1}, {JIDROFEX_REFUSED_REPEATED, 3, 1}},
+    {"23453", {JIDROFEX_REFUSED_REPEATED, 5, 2}, {JIDROFEX_REFUSED_REPEATED, 5, 2}},
+    /* three equal entries, and two pairs */
+    {"3433", {JIDROFEX_REFUSED_REPEATED, 3, 1}, {JIDROFEX_REFUSED_REPEATED, 3, 1}},
+    {"2332", {JIDROFEX_REFUSED_REPEATED, 3, 2}, {JIDROFEX_REFUSED_REPEATED, 3, 2}},
+    /* another fault before an equal entry */
+    {"2022", {JIDROFEX_REFUSED_OUTSIDE, 2, 0}, {JIDROFEX_REFUSED_OUTSIDE, 2, 0}},
+    {"2355", {JIDROFEX_REFUSED_OUTSIDE, 3, 0}, {JIDROFEX_REFUSED_OUTSIDE, 3, 0}},
+    {"3232", {JIDROFEX_REFUSED_OWN_JACK, 2, 0}, {JIDROFEX_REFUSED_REPEATED, 3, 1}},
+    {"24332", {JIDROFEX_REFUSED_OWN_JACK, 3, 0}, {JIDROFEX_REFUSED_REPEATED, 4, 3}},
+    {"1255", {JIDROFEX_REFUSED_OWN_JACK, 1, 0}, {JIDROFEX_REFUSED_OUTSIDE, 3, 0}},
+    /* 20 ports: the last entry equal to the first, and to the one before it */
+    {"23456789abcdefghijk2", {JIDROFEX_REFUSED_REPEATED, 20, 1}, {JIDROFEX_REFUSED_REPEATED, 20, 1}},
+    {"23456789abcdefghijkk", {JIDROFEX_REFUSED_REPEATED, 20, 19}, {JIDROFEX_REFUSED_REPEATED, 20, 19}},
+    {"123456789abcdefghijj", {JIDROFEX_REFUSED_OWN_JACK, 1, 0}, {JIDROFEX_REFUSED_REPEATED, 20, 19}},
+    {"12", {JIDROFEX_REFUSED_OWN_JACK, 1, 0}, {JIDROFEX_ACCEPTED, 0, 0}},
+    {"2134", {JIDROFEX_REFUSED_OWN_JACK, 3, 0}, {JIDROFEX_ACCEPTED, 0, 0}},
+    {"23456789abcdefghij1k", {JIDROFEX_REFUSED_OWN_JACK, 20, 0}, {JIDROFEX_ACCEPTED, 0, 0}}
 };
+
+/* A call was refused for this fault, or accepted with nothing given where there is none. */
+static void faulted(const char *what, uint8_t found, fault wanted)
+{
+    refused_with(what, found, wanted.number, wanted.place, wanted.earlier);
+}
 
 /* Ranks from the paper: its cases, the homes, and those that its example meets; and the last of 20 ports. */
 static const struct {
@@ -131,20 +267,18 @@ static void pattern_faults(void)
     size_t k;
     for (k = 0; k < sizeof faults / sizeof faults[0]; k++) {
         const char *ports = faults[k].ports;
-        uint8_t fault = faults[k].as_pattern;
-        uint64_t place = faults[k].pattern_place;
         size_t n = strlen(ports);
-        refused(on("check", ports), jidrofex_check(laid(ports), n, fresh()), fault, place);
+        faulted(on("check", ports), jidrofex_check(laid(ports), n, fresh()), faults[k].as_pattern);
         stands(on("check", ports), ports);
-        refused(on("rank", ports), jidrofex_rank(laid(ports), n, fresh()), fault, place);
+        faulted(on("rank", ports), jidrofex_rank(laid(ports), n, fresh()), faults[k].as_pattern);
         stands(on("rank", ports), ports);
-        refused(on("next", ports), jidrofex_next(laid(ports), n, fresh()), fault, place);
+        faulted(on("next", ports), jidrofex_next(laid(ports), n, fresh()), faults[k].as_pattern);
         stands(on("next", ports), ports);
-        refused(on("previous", ports), jidrofex_previous(laid(ports), n, fresh()), fault, place);
+        faulted(on("previous", ports), jidrofex_previous(laid(ports), n, fresh()), faults[k].as_pattern);
         stands(on("previous", ports), ports);
-        told(on("check_panel", ports), jidrofex_check_panel(laid(ports), n, fresh()), faults[k].as_panel, faults[k].panel_place, 0, 0, 0, 0);
+        faulted(on("check_panel", ports), jidrofex_check_panel(laid(ports), n, fresh()), faults[k].as_panel);
         stands(on("check_panel", ports), ports);
-        if (fault == JIDROFEX_REFUSED_PORTS) {
+        if (faults[k].as_pattern.number == JIDROFEX_REFUSED_PORTS) {
             refused(on("unrank", ports), jidrofex_unrank(0, laid(ports), n, fresh()), JIDROFEX_REFUSED_PORTS, 0);
             stands(on("unrank", ports), ports);
         }
