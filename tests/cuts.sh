@@ -23,7 +23,7 @@ cuts_c() { cc -std=c99 -pedantic -O2 -U_FORTIFY_SOURCE -Wall -Wextra -Werror -Ii
 # what the example calls and the test stands in for; what it calls besides is known here, so that no operation of a new kind goes by unseen
 cuts_wrapped='open read write fsync close rename jidrofex_begin jidrofex_resume jidrofex_status jidrofex_request jidrofex_report_mark'
 cuts_bench='bench_obeys bench_opens bench_reads bench_runs'
-cuts_plain='jidrofex_refusal_words jidrofex_unrank jidrofex_version'
+cuts_plain='jidrofex_refusal_sentence jidrofex_unrank jidrofex_version'
 
 cuts_every() {
     cuts_build 'the example in C' cuts_c -c -o "$cuts_out/campaign.o" examples/c/campaign.c || return
@@ -124,17 +124,18 @@ cuts_refuses() {
     cuts_file "$1" 'zeros in its second half' 'state is torn: its sum does not hold' sed '30,62s/[0-9]/0/g'
     cuts_file "$1" 'another sum' 'state is torn: its sum does not hold' sed '$s/ .*/ 0000000000000000/'
     cuts_file "$1" 'another text' 'state is not the state of a campaign' cat plans/example
-    cuts_file "$1" 'a later version' 'state is a state of another version' sed '1s/1$/2/'
+    cuts_file "$1" 'a later version' 'state is a state of another version' sed '1s/2$/3/'
+    cuts_file "$1" 'an earlier version' 'state is a state of another version' sed '1s/2$/1/'
     cp "$cuts_out/desk/plan" "$cuts_out/plan-kept"
     sed 's/run=2/run=3/' "$cuts_out/plan-kept" >"$cuts_out/desk/plan"
     cuts_refused "$1" 'the state of another plan' 'state is the state of another plan'
     cp "$cuts_out/plan-kept" "$cuts_out/desk/plan"
     # by the paper rank 8 of 4 ports is 2143; while its mark stands no other panel is taken
-    cuts_cords "$1" 'a panel that was moved by hand' '2 3 4 1' 'resume: refused=15 at=0: state unfit
+    cuts_cords "$1" 'a panel that was moved by hand' '2 3 4 1' 'resume: refused=15: state unfit
 set the cords to 2 1 4 3 and start again'
-    cuts_cords "$1" 'a jack without its cord' '2 1 0 3' "resume: refused=3 at=3: entry outside the panel's ports
+    cuts_cords "$1" 'a jack without its cord' '2 1 0 3' "resume: refused=3: jack 3: entry outside the panel's ports
 set the cords to 2 1 4 3 and start again"
-    cuts_cords "$1" 'a port at two jacks' '2 1 4 1' 'resume: refused=4 at=4: entry equal to an earlier one
+    cuts_cords "$1" 'a port at two jacks' '2 1 4 1' 'resume: refused=4: jack 4: entry equal to an earlier one, at jack 2
 set the cords to 2 1 4 3 and start again'
     cuts_cords "$1" 'a panel that is none' 'two' 'panel is no panel of 4 ports'
     [ "$failed" -eq "$cuts_failed" ] || return

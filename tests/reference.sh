@@ -102,7 +102,7 @@ reference_example() {
     rm -f "$reference_out/state" "$reference_out/panel"
     if "$2" "$reference_out/refused" "$reference_out/state" "$reference_out/panel" >"$reference_out/found" 2>"$reference_out/said"; then
         fail "examples: $1: a refused plan ends well"
-    elif [ ! -s "$reference_out/found" ] && [ "$(cat "$reference_out/said")" = 'begin: refused=9 at=2: legs not 1 to 16' ] &&
+    elif [ ! -s "$reference_out/found" ] && [ "$(cat "$reference_out/said")" = 'begin: refused=9: line 2: legs not 1 to 16' ] &&
         [ ! -e "$reference_out/state" ] && [ ! -e "$reference_out/panel" ]; then
         pass "examples: $1: a refused plan is said, with its number, line and words, and nothing is written"
     else

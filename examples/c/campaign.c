@@ -15,15 +15,14 @@
 #include <stdio.h>
 #include <string.h>
 
-/* A call was refused: its number, its place, its words. */
+/* A call was refused: its number, and its answer as a sentence, which says where. */
 static int refused(const char *call, uint8_t number, const uint64_t *answer)
 {
-    uint8_t words[JIDROFEX_WORDS_BYTES];
+    uint8_t sentence[JIDROFEX_SENTENCE_BYTES];
     uint64_t taken[JIDROFEX_ANSWER_WORDS];
 
-    jidrofex_refusal_words(number, words, sizeof words, taken);
-    fprintf(stderr, "%s: refused=%u at=%" PRIu64 ": %.*s\n", call, (unsigned)number, answer[0], (int)taken[0],
-            (const char *)words);
+    jidrofex_refusal_sentence(number, answer, sentence, sizeof sentence, taken);
+    fprintf(stderr, "%s: refused=%u: %.*s\n", call, (unsigned)number, (int)taken[0], (const char *)sentence);
     return 1;
 }
 

@@ -5,7 +5,13 @@ use std::fmt;
 mod raw {
     extern "C" {
         pub fn jidrofex_version(answer: *mut u64) -> u8;
-        pub fn jidrofex_refusal_words(number: u8, buffer: *mut u8, bytes: usize, answer: *mut u64) -> u8;
+        pub fn jidrofex_refusal_sentence(
+            number: u8,
+            refused: *const u64,
+            buffer: *mut u8,
+            bytes: usize,
+            answer: *mut u64,
+        ) -> u8;
         pub fn jidrofex_unrank(rank: u64, pattern: *mut u8, ports: usize, answer: *mut u64) -> u8;
         pub fn jidrofex_carry(panel: *mut u8, ports: usize, line: *const u64, answer: *mut u64) -> u8;
         pub fn jidrofex_begin(text: *const u8, bytes: usize, state: *mut u64, words: usize, answer: *mut u64) -> u8;
@@ -16,10 +22,10 @@ mod raw {
     }
 }
 
-pub const VERSION: u64 = 1;
+pub const VERSION: u64 = 2;
 pub const ANSWER_WORDS: usize = 5;
 pub const LINE_BYTES: usize = 45;
-pub const WORDS_BYTES: usize = 49;
+pub const SENTENCE_BYTES: usize = 86;
 pub const STATE_WORDS: usize = 61;
 pub const STATE_PORTS: usize = 0;
 pub const STATE_PANEL: usize = 34; // the words before it are the plan
@@ -30,20 +36,21 @@ pub const RAN: u8 = 0;
 pub type Answer = [u64; ANSWER_WORDS];
 pub type State = [u64; STATE_WORDS];
 
-/// A refused call: its name, the number of the refusal and the place.
+/// A refused call: its name, the number of the refusal, and its answer, which says where.
 pub struct Refusal {
     call: &'static str,
     number: u8,
-    place: u64,
+    answer: Answer,
 }
 
 impl fmt::Display for Refusal {
     fn fmt(&self, f: &mut fmt::Formatter) -> fmt::Result {
-        let Refusal { call, number, place } = self;
-        let (mut words, mut answer) = ([0; WORDS_BYTES], [0; ANSWER_WORDS]);
-        unsafe { raw::jidrofex_refusal_words(*number, words.as_mut_ptr(), WORDS_BYTES, answer.as_mut_ptr()) };
-        let words = String::from_utf8_lossy(&words[..answer[0] as usize]);
-        write!(f, "{call}: refused={number} at={place}: {words}")
+        let Refusal { call, number, answer } = self;
+        let (mut text, mut taken) = ([0; SENTENCE_BYTES], [0; ANSWER_WORDS]);
+        let (refused, room) = (answer.as_ptr(), text.as_mut_ptr());
+        unsafe { raw::jidrofex_refusal_sentence(*number, refused, room, SENTENCE_BYTES, taken.as_mut_ptr()) };
+        let sentence = String::from_utf8_lossy(&text[..taken[0] as usize]);
+        write!(f, "{call}: refused={number}: {sentence}")
     }
 }
 
@@ -58,7 +65,7 @@ fn told(call: &'static str, make: impl FnOnce(*mut u64) -> u8) -> Result<Answer,
     let mut answer = [0; ANSWER_WORDS];
     match make(answer.as_mut_ptr()) {
         0 => Ok(answer),
-        number => Err(Refusal { call, number, place: answer[0] }),
+        number => Err(Refusal { call, number, answer }),
     }
 }
 
