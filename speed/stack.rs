@@ -110,6 +110,8 @@ pub fn stack_table() {
     let show = |name: &str, bytes: usize| println!("| {name} | {bytes} |");
     show("version", deepest(nothing, |l| accepted(face::version(&mut l.answer))));
     show("refusal_words", deepest(nothing, |l| accepted(face::refusal_words(l.pattern[0], &mut l.buffer, &mut l.answer))));
+    let longest = [u64::MAX; 5];
+    show("refusal_sentence", deepest(nothing, |l| accepted(face::refusal_sentence(l.pattern[0], &longest, &mut l.buffer, &mut l.answer))));
     show("check", deepest(nothing, |l| accepted(face::check(&l.pattern, &mut l.answer))));
     show("check_panel", deepest(nothing, |l| accepted(face::check_panel(&l.pattern, &mut l.answer))));
     show("count", deepest(nothing, |l| accepted(face::count(20, &mut l.answer))));
