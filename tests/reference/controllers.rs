@@ -1,4 +1,5 @@
-//! The self test's part on what a controller asks beside its orders: the version, a refusal in words and as a sentence, where a campaign is, a report that names its mark.
+//! The self test's part on what a controller asks beside its orders: the version, a refusal in words and as a sentence, where a campaign is, a report that
+//! names its mark.
 
 use crate::rules::at_mark;
 use crate::{Compared, PLAN};

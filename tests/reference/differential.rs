@@ -59,11 +59,12 @@ impl Harness {
         wanted
     }
 
-    /// One call on both sides, of which number and answer are known besides: a reference that is wrong where the library is would be seen.
-    fn compare_known(&mut self, call: Call, number: u8, answer: Answer) {
+    /// One call on both sides that is known to be refused so, with nothing changed: a reference that is wrong where the library is would be seen.
+    fn compare_refused(&mut self, call: Call, number: u8, answer: Answer) {
+        let known = Outcome { number, answer, bytes: call.bytes.clone(), words: call.words.clone(), spilled: false };
         let found = self.compare(call.clone());
-        if (found.number, found.answer) != (number, answer) {
-            self.differ(&format!("the reference beside what is known: {call:?}"), &found, &(number, answer));
+        if found != known {
+            self.differ_as(["reference:", "known:"], &call, &found, &known);
         }
     }
 
@@ -86,9 +87,14 @@ impl Harness {
     }
 
     fn differ(&mut self, input: &dyn Debug, found: &dyn Debug, wanted: &dyn Debug) {
+        self.differ_as(["library:", "reference:"], input, found, wanted);
+    }
+
+    /// A difference, with the names of what was found and of what was wanted.
+    fn differ_as(&mut self, names: [&str; 2], input: &dyn Debug, found: &dyn Debug, wanted: &dyn Debug) {
         self.differences += 1;
         println!("difference {}: --seed {} --group '{}' --case {}", self.differences, self.seed, self.group, self.case);
-        println!("  input:     {input:?}\n  library:   {found:?}\n  reference: {wanted:?}");
+        println!("  input:     {input:?}\n  {:10} {found:?}\n  {:10} {wanted:?}", names[0], names[1]);
         if self.differences == MOST_DIFFERENCES {
             println!("differential: {} cases, {} differences, and no more is compared", self.compared, self.differences);
             exit(1);

@@ -91,7 +91,11 @@ pub fn null_pointers(h: &mut Harness) {
     const REFUSED: [u64; 5] = [5, 2, 0, 0, 0];
     let calls: [(&str, Made, Made); 23] = [
         ("refusal_words", |a| unsafe { raw::jidrofex_refusal_words(0, null_mut(), 0, a.as_mut_ptr()) }, |a| told::refusal_words(0, &mut [], a)),
-        ("refusal_sentence", |a| unsafe { raw::jidrofex_refusal_sentence(4, REFUSED.as_ptr(), null_mut(), 0, a.as_mut_ptr()) }, |a| told::refusal_sentence(4, &REFUSED, &mut [], a)),
+        (
+            "refusal_sentence",
+            |a| unsafe { raw::jidrofex_refusal_sentence(4, REFUSED.as_ptr(), null_mut(), 0, a.as_mut_ptr()) },
+            |a| told::refusal_sentence(4, &REFUSED, &mut [], a),
+        ),
         ("check", |a| unsafe { raw::jidrofex_check(null(), 0, a.as_mut_ptr()) }, |a| told::check(&[], a)),
         ("check_panel", |a| unsafe { raw::jidrofex_check_panel(null(), 0, a.as_mut_ptr()) }, |a| told::check_panel(&[], a)),
         ("rank", |a| unsafe { raw::jidrofex_rank(null(), 0, a.as_mut_ptr()) }, |a| told::rank(&[], a)),

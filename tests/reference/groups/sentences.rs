@@ -42,8 +42,9 @@ pub fn sentences(h: &mut Harness) {
     }
 }
 
-/// The sentence of a number and of an answer's first two words; the others, which are not looked at, are arbitrary.
+/// The sentence of a number and of an answer's first two words; the others, which are not looked at, are zeros as a refused call leaves them, or arbitrary.
 fn say(h: &mut Harness, rng: &mut Rng, number: u8, [place, earlier]: [u64; 2], room: usize) {
-    let refused = vec![place, earlier, rng.next(), rng.next(), rng.next()];
-    h.compare(Call::on_both(Name::RefusalSentence { number }, rng.bytes(room), refused));
+    let others = [rng.next(), rng.next(), rng.next()];
+    let [c, d, e] = rng.pick(&[[0; 3], others]);
+    h.compare(Call::on_both(Name::RefusalSentence { number }, rng.bytes(room), vec![place, earlier, c, d, e]));
 }
