@@ -35,6 +35,10 @@ extern "C" {
  * jidrofex_version gives that of the library. */
 enum { JIDROFEX_VERSION = 2 };
 
+/* The version of the words of a state, which is saved with them. It goes up by one whenever they change, and only then:
+ * a library of a later version goes on with a saved state of the same words. */
+enum { JIDROFEX_STATE_VERSION = 1 };
+
 enum {
     JIDROFEX_MOST_PORTS = 20,
     JIDROFEX_MOST_LEGS = 16,

@@ -124,8 +124,8 @@ cuts_refuses() {
     cuts_file "$1" 'zeros in its second half' 'state is torn: its sum does not hold' sed '30,62s/[0-9]/0/g'
     cuts_file "$1" 'another sum' 'state is torn: its sum does not hold' sed '$s/ .*/ 0000000000000000/'
     cuts_file "$1" 'another text' 'state is not the state of a campaign' cat plans/example
-    cuts_file "$1" 'a later version' 'state is a state of another version' sed '1s/2$/3/'
-    cuts_file "$1" 'an earlier version' 'state is a state of another version' sed '1s/2$/1/'
+    cuts_file "$1" 'a later version' 'state is a state of another version' sed '1s/1$/2/'
+    cuts_file "$1" 'an earlier version' 'state is a state of another version' sed '1s/1$/0/'
     cp "$cuts_out/desk/plan" "$cuts_out/plan-kept"
     sed 's/run=2/run=3/' "$cuts_out/plan-kept" >"$cuts_out/desk/plan"
     cuts_refused "$1" 'the state of another plan' 'state is the state of another plan'

@@ -12,7 +12,7 @@ header_archive=target/host/libjidrofex.a
 header_lines() {
     case $1 in
         declarations) grep -E '^(call|unknown) ' ;;
-        numbers) grep -E '^(refused|constant) ' | grep -vE '^constant JIDROFEX_(ACCEPTED|LINE_BYTES|ANY_LINE_BYTES|PLAN_BYTES|WORDS_BYTES|SENTENCE_BYTES) ' ;;
+        numbers) grep -E '^(refused|constant) ' | grep -vE '^constant JIDROFEX_(ACCEPTED|LINE_BYTES|ANY_LINE_BYTES|PLAN_BYTES|WORDS_BYTES|SENTENCE_BYTES|STATE_VERSION) ' ;;
     esac | sort
 }
 

@@ -1,6 +1,6 @@
 /* The state's file is text, lines that each end in a newline:
  *
- *     jidrofex state, version 2      what it is, with the version of the header
+ *     jidrofex state, version 1      what it is, with the version of the words of a state
  *     4                              the words of the state in turn, in decimal
  *     ..
  *     sum 0123456789abcdef           the 64-bit FNV-1a sum of all bytes before this line
@@ -35,7 +35,7 @@ static int said(const char *name)
 static size_t text_of(const uint64_t *state, char *text)
 {
     uint64_t sum = UINT64_C(14695981039346656037);
-    int at = sprintf(text, "%s%d\n", first_line, JIDROFEX_VERSION);
+    int at = sprintf(text, "%s%d\n", first_line, JIDROFEX_STATE_VERSION);
 
     for (int k = 0; k < JIDROFEX_STATE_WORDS; k++)
         at += sprintf(text + at, "%" PRIu64 "\n", state[k]);
@@ -56,7 +56,7 @@ static const char *wrong(const char *text, size_t bytes, uint64_t *state)
         return "is not the state of a campaign";
     if (lines == 0)
         return "is cut short";
-    if (strtoull(text + first, &at, 10) != JIDROFEX_VERSION || *at != '\n')
+    if (strtoull(text + first, &at, 10) != JIDROFEX_STATE_VERSION || *at != '\n')
         return "is a state of another version";
     if (lines < JIDROFEX_STATE_WORDS + 2)
         return "is cut short";

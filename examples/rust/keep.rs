@@ -2,14 +2,14 @@
 //!
 //! The file is text, lines that each end in a newline:
 //!
-//!     jidrofex state, version 2      what it is, with the version of the header
+//!     jidrofex state, version 1      what it is, with the version of the words of a state
 //!     4                              the words of the state in turn, in decimal
 //!     ..
 //!     sum 0123456789abcdef           the 64-bit FNV-1a sum of all bytes before this line
 //!
 //! It is written beside the old one, synced to the disk, and renamed over it.
 
-use crate::jidrofex::{State, STATE_WORDS, VERSION};
+use crate::jidrofex::{State, STATE_VERSION, STATE_WORDS};
 use std::fs::{self, File};
 use std::io::{ErrorKind, Write};
 use std::path::Path;
@@ -18,7 +18,7 @@ const FIRST_LINE: &str = "jidrofex state, version ";
 
 /// The whole text of a state.
 fn text_of(state: &State) -> String {
-    let mut text = format!("{FIRST_LINE}{VERSION}\n");
+    let mut text = format!("{FIRST_LINE}{STATE_VERSION}\n");
     for word in state {
         text += &format!("{word}\n");
     }
@@ -41,7 +41,7 @@ fn state_in(text: &[u8]) -> Result<State, &'static str> {
     if lines.len() == 1 {
         return Err("is cut short");
     }
-    if lines[0] != format!("{FIRST_LINE}{VERSION}").as_bytes() {
+    if lines[0] != format!("{FIRST_LINE}{STATE_VERSION}").as_bytes() {
         return Err("is a state of another version");
     }
     if lines.len() < STATE_WORDS + 3 {
