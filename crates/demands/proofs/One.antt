@@ -28,6 +28,7 @@ use Rattle.line_format.specs.Calls.{roomOf, roomBytes, writeOf, writeBytes}
 use Rattle.words.specs.Shape.{lineFits}
 use Rattle.line_format.specs.Reading.{fitting, numbersIn, numbersTold, keyed, lineIn, readOf}
 use Rattle.line_refusal.specs.Words.{wordsOf, refusalWordsOf, refusalWordsBytes}
+use Rattle.line_sentence.specs.Sentences.{sentenceOf, refusalSentenceOf, refusalSentenceBytes}
 use Rattle.promise.specs.Campaign.{Setting, movement, mark, theEnd, taken, refusal, Call, request, reportTo, reportOf, isError, todo, next, offer, standsFor, answer}
 use Rattle.promise.specs.Campaign as model
 use Rattle.campaign_state.specs.State.{settingOf, momentOf}
@@ -130,7 +131,7 @@ unfolding writeOf
 write-numbers l buf =
     from-then (17 ∷ 2 ∷ []) _ _ (fitting-numbers (17 ∷ 2 ∷ []) l (inl refl)) (λ k. room-numbers (17 ∷ 2 ∷ []) (inr (inl refl)) (lineText k) buf)
 
--- ---- a refusal's words
+-- ---- a refusal's words, and a refusal as a sentence
 
 refusal-words-numbers : (number : ℕ) (buf : List ℕ) → Refuses (2 ∷ []) (refusalWordsOf number buf)
 unfolding refusalWordsOf
@@ -139,6 +140,15 @@ refusal-words-numbers number buf = room-numbers (2 ∷ []) (inl refl) (wordsOf n
 refusal-words-kept : (number : ℕ) (buf : List ℕ) → Keeps (refusalWordsOf number buf) (refusalWordsBytes number buf) buf
 unfolding refusalWordsOf refusalWordsBytes roomBytes
 refusal-words-kept number buf = kept (roomOf (wordsOf number) buf) _ buf
+
+refusal-sentence-numbers : (number place earlier : ℕ) (buf : List ℕ) → Refuses (2 ∷ []) (refusalSentenceOf number place earlier buf)
+unfolding refusalSentenceOf
+refusal-sentence-numbers number place earlier buf = room-numbers (2 ∷ []) (inl refl) (sentenceOf number place earlier) buf
+
+refusal-sentence-kept : (number place earlier : ℕ) (buf : List ℕ)
+    → Keeps (refusalSentenceOf number place earlier buf) (refusalSentenceBytes number place earlier buf) buf
+unfolding refusalSentenceOf refusalSentenceBytes roomBytes
+refusal-sentence-kept number place earlier buf = kept (roomOf (sentenceOf number place earlier) buf) _ buf
 
 -- ---- states and reports
 
@@ -266,6 +276,8 @@ demand-one = record {
   writeKeeps = λ l buf. kept (writeOf mostPorts l buf) _ buf;
   refusalWords = refusal-words-numbers;
   refusalWordsKeeps = refusal-words-kept;
+  refusalSentence = refusal-sentence-numbers;
+  refusalSentenceKeeps = refusal-sentence-kept;
   asked = request-numbers;
   reported = report-numbers none;
   reportedMark = λ m. report-numbers (some m);

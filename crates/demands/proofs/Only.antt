@@ -2,6 +2,7 @@
 -- call's crate.
 -- Assumes nothing.
 use mathlib.Core.Path.{_≡_}
+use lib.ListN.{getD}
 use denote.Ref.{now}
 use Rattle.words.specs.Contract.{Contract, Says, One}
 use Rattle.pattern_check.proofs.Only.{only-check}
@@ -20,6 +21,8 @@ use Rattle.line_reader.proofs.Only.{only-read-line}
 use Rattle.line_reader.proofs.Contracts.{read-line-says}
 use Rattle.line_refusal.proofs.Only.{only-refusal-words}
 use Rattle.line_refusal.proofs.Contracts.{refusal-words-says}
+use Rattle.line_sentence.proofs.Only.{only-refusal-sentence}
+use Rattle.line_sentence.proofs.Contracts.{refusal-sentence-says}
 use Rattle.plans.proofs.Only.{only-read-plan}
 use Rattle.plans.proofs.Contracts.{read-plan-says}
 use Rattle.campaign.proofs.Only.{only-request, only-request-bytes, only-report, only-begin}
@@ -67,6 +70,9 @@ each-call-one = record {
   writeLine = one-by write-line-says (λ κs a r s e f h k. both (only-write-line _ _ r s _ _ (h .0) (h .1) (k .0) (k .1)));
   readLine = one-by read-line-says (λ κs a r s e f. only-read-line _ _ r s);
   refusalWords = one-by refusal-words-says (λ κs (number, (buf, _)) r s e f h k. both (only-refusal-words number (now buf) r s _ _ (h .0) (h .1) (k .0) (k .1)));
+  refusalSentence = one-by refusal-sentence-says
+      (λ κs (number, (place, (earlier, (buf, _)))) r s e f h k.
+      both (only-refusal-sentence number place earlier (now buf) r s _ _ (h .0) (h .1) (k .0) (k .1)));
   readPlan = one-by read-plan-says (λ κs a r s e f. only-read-plan _ r s);
   begin = one-by begin-says (λ κs a r s e f. only-begin _ r s);
   request = one-by request-says (λ κs a r s e f h k. both (only-request _ _ _ r s (h .0) (k .0), only-request-bytes _ _ _ _ (h .1) (k .1)));
@@ -78,6 +84,8 @@ each-call-one = record {
   fill = one-by fill-says (λ κs (p, (buf, _)) r s e f h k. both (only-fill p (now buf) r s _ _ (h .0) (h .1) (k .0) (k .1)));
   faceVersion = one-by face-words.version-says (λ κs a r s e f. face.only-version _ _);
   faceRefusalWords = one-by face-words.refusal-words-says (λ κs (number, (buf, _)) r s e f. face.only-refusal-words number (now buf) _ _);
+  faceRefusalSentence = one-by face-words.refusal-sentence-says
+      (λ κs (number, (refused, (buf, _))) r s e f. face.only-refusal-sentence number (getD (now refused) 0 0) (getD (now refused) 1 0) (now buf) _ _);
   faceCheck = one-by face-patterns.check-says (λ κs a r s e f. face.only-check _ _ _ _);
   faceCheckPanel = one-by face-patterns.check-panel-says (λ κs a r s e f. face.only-check _ _ _ _);
   faceCount = one-by face-patterns.count-says (λ κs a r s e f. face.only-count _ _ _);

@@ -17,6 +17,7 @@ use Rattle.panel.specs.Calls.{portOf, jackOf, carryOf, carryBytes}
 use Rattle.line_format.specs.Calls.{writeOf, writeBytes}
 use Rattle.line_format.specs.Reading.{readOf}
 use Rattle.line_refusal.specs.Words.{refusalWordsOf, refusalWordsBytes}
+use Rattle.line_sentence.specs.Sentences.{refusalSentenceOf, refusalSentenceBytes}
 use Rattle.plans.specs.Calls.{readPlanOf}
 use Rattle.promise.specs.Campaign.{Answer, refusal, Call, request, report, reportOn}
 use Rattle.campaign_state.specs.declared.State.{State}
@@ -74,9 +75,12 @@ pub record DemandOne : Type 0 where
   pub readLine : (t : List ℕ) (place : ℕ) → Refuses (11 ∷ 7 ∷ 8 ∷ 17 ∷ []) (readOf largest64 mostPorts t place)
   pub writeLine : (l : Line) (buf : List ℕ) → Refuses (17 ∷ 2 ∷ []) (writeOf mostPorts l buf)
   pub writeKeeps : (l : Line) (buf : List ℕ) → Keeps (writeOf mostPorts l buf) (writeBytes mostPorts l buf) buf
-  -- ---- a refusal's words
+  -- ---- a refusal's words, and a refusal as a sentence
   pub refusalWords : (number : ℕ) (buf : List ℕ) → Refuses (2 ∷ []) (refusalWordsOf number buf)
   pub refusalWordsKeeps : (number : ℕ) (buf : List ℕ) → Keeps (refusalWordsOf number buf) (refusalWordsBytes number buf) buf
+  pub refusalSentence : (number place earlier : ℕ) (buf : List ℕ) → Refuses (2 ∷ []) (refusalSentenceOf number place earlier buf)
+  pub refusalSentenceKeeps : (number place earlier : ℕ) (buf : List ℕ)
+      → Keeps (refusalSentenceOf number place earlier buf) (refusalSentenceBytes number place earlier buf) buf
   -- ---- states and reports: 'For the campaign: 15 first, then 14, 12, 13, 16, last 2'
   pub asked : (room : ℕ) (s : State) → RefusesAs (15 ∷ 13 ∷ 2 ∷ []) (answerOf (request room) s)
   pub reported : (kind : ℕ) (s : State) → RefusesAs (15 ∷ 14 ∷ 12 ∷ 16 ∷ []) (answerOf (report kind) s)

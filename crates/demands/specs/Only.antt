@@ -26,6 +26,7 @@ use Rattle.text_keys.proofs.has_key.Reads as has-key
 use Rattle.line_writer.proofs.order_lines.write_line.Reads as write-line
 use Rattle.line_reader.proofs.order_lines.read_line.Reads as read-line
 use Rattle.line_refusal.proofs.wording.refusal_words.Reads as refusal-words
+use Rattle.line_sentence.proofs.refusal_sentence.Reads as refusal-sentence
 use Rattle.plans.proofs.reading.read_plan.Reads as read-plan
 use Rattle.campaign.proofs.Campaign.begin.Reads as begin
 use Rattle.campaign.proofs.Campaign.request.Reads as request
@@ -37,6 +38,7 @@ use Rattle.printing.proofs.rehearse.Reads as rehearse
 use Rattle.printing.proofs.fill.Reads as fill
 use Rattle.face_words.proofs.jidrofex_version.Reads as face-version
 use Rattle.face_words.proofs.jidrofex_refusal_words.Reads as face-refusal-words
+use Rattle.face_words.proofs.jidrofex_refusal_sentence.Reads as face-refusal-sentence
 use Rattle.face_patterns.proofs.jidrofex_check.Reads as face-check
 use Rattle.face_patterns.proofs.jidrofex_check_panel.Reads as face-check-panel
 use Rattle.face_patterns.proofs.jidrofex_count.Reads as face-count
@@ -93,8 +95,9 @@ pub record EachCallOne : Type 0 where
   -- ---- order lines
   pub writeLine : OneWith write-line.Learnt (λ κs (_, (buf, _)). now buf)
   pub readLine : OneAnswer read-line.Learnt
-  -- ---- a refusal's words
+  -- ---- a refusal's words, and a refusal as a sentence
   pub refusalWords : OneWith refusal-words.Learnt (λ κs (_, (buf, _)). now buf)
+  pub refusalSentence : OneWith refusal-sentence.Learnt (λ κs (_, (_, (_, (buf, _)))). now buf)
   -- ---- plans
   pub readPlan : OneAnswer read-plan.Learnt
   -- ---- the campaign
@@ -111,6 +114,7 @@ pub record EachCallOne : Type 0 where
   -- ---- the library
   pub faceVersion : One face-version.Learnt (λ κs r (answer, _). result r (now answer) [])
   pub faceRefusalWords : One face-refusal-words.Learnt (λ κs r (_, (buf, (answer, _))). result r (now answer) (now buf ∷ []))
+  pub faceRefusalSentence : One face-refusal-sentence.Learnt (λ κs r (_, (_, (buf, (answer, _)))). result r (now answer) (now buf ∷ []))
   -- ---- patterns, the panel, order lines, the campaign and lines in bulk
   pub faceCheck : One face-check.Learnt (λ κs r (_, (answer, _)). result r (now answer) [])
   pub faceCheckPanel : One face-check-panel.Learnt (λ κs r (_, (answer, _)). result r (now answer) [])

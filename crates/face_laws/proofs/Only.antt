@@ -15,6 +15,7 @@ use Rattle.panel.specs.Calls.{portOf, jackOf, carryOf, carryBytes}
 use Rattle.line_format.specs.Calls.{writeOf, writeBytes}
 use Rattle.line_format.specs.Reading.{readOf}
 use Rattle.line_refusal.specs.Words.{refusalWordsOf, refusalWordsBytes}
+use Rattle.line_sentence.specs.Sentences.{refusalSentenceOf, refusalSentenceBytes}
 use Rattle.face_values.specs.Answers.{versionTold, nothing, oneNumber}
 use Rattle.face_values.specs.Lines.{moveWords, lineIn}
 use Rattle.face_values.specs.Only.{Only}
@@ -36,6 +37,10 @@ only-version = only _ _ _
 
 pub only-refusal-words : (number : ℕ) (buf : List ℕ) → Only oneNumber (refusalWordsOf number buf) (refusalWordsBytes number buf ∷ [])
 only-refusal-words number buf = only _ _ _
+
+pub only-refusal-sentence : (number place earlier : ℕ) (buf : List ℕ)
+    → Only oneNumber (refusalSentenceOf number place earlier buf) (refusalSentenceBytes number place earlier buf ∷ [])
+only-refusal-sentence number place earlier buf = only _ _ _
 
 -- ---- patterns
 
