@@ -1,6 +1,6 @@
 -- How long a sentence is: its parts (`where-longest`, `other-longest`), at most 86 bytes in all (`sentence-longest`), and that one has so many (`longest-met`).
 -- Assumes nothing.
-use mathlib.Core.Path.{_≡_, refl, ap, _∙_}
+use mathlib.Core.Path.{_≡_, refl}
 use mathlib.Core.Logic.{_≢_}
 use mathlib.Core.Bool.{Bool, true, false, cond}
 use mathlib.Core.List.{List, [], _++_}
@@ -40,7 +40,8 @@ where-longest number place h =
 pub other-longest : (number earlier : ℕ) → earlier ≤ largest64 → length (otherText number earlier) ≤ 30
 unfolding otherText quoted
 other-longest number earlier h =
-    let long : length (quoted ", at jack " ++ digitsOf earlier) ≤ 30 = omega (arith, length-append (quoted ", at jack ") (digitsOf earlier), digits-64 earlier h) in
+    let long : length (quoted ", at jack " ++ digitsOf earlier) ≤ 30 =
+    omega (arith, length-append (quoted ", at jack ") (digitsOf earlier), digits-64 earlier h) in
     of-two (eqb earlier 0) [] _ 30 (omega arith) (of-two (eqb number 4) _ [] 30 long (omega arith))
 
 -- and nothing unless the number is 4
@@ -54,7 +55,8 @@ unfolding wordsOf quoted
 words-four number e = rw e refl
 
 -- no sentence is longer than 86 bytes
-pub sentence-longest : (number place earlier : ℕ) → place ≤ largest64 → earlier ≤ largest64 → length (sentenceOf number place earlier) ≤ mostSentence
+pub sentence-longest : (number place earlier : ℕ) → place ≤ largest64 → earlier ≤ largest64
+    → length (sentenceOf number place earlier) ≤ mostSentence
 unfolding sentenceOf
 sentence-longest number place earlier h k =
     let all = length-append (whereText number place ++ wordsOf number) (otherText number earlier) in

@@ -1,14 +1,15 @@
 -- Texts written one behind the other: a text over the part of a buffer from a place on (`part-over`), and behind another one (`over-behind`), so that three of
--- them are one text over the buffer (`over-three`), and are told as one (`three-room`, `three-front`). At the end, that any words fit 49 bytes (`words-fit`).
+-- them are one text over the buffer (`over-three`), are told as one (`three-room`, `three-front`), and as the sentence if they are its parts (`sentence-told`).
+-- At the end, that any words fit 49 bytes (`words-fit`).
 -- Assumes nothing.
-use mathlib.Core.Path.{_≡_, sym, ap, _∙_}
+use mathlib.Core.Path.{_≡_, sym, ap, _∙_, subst}
 use mathlib.Core.List.{List, [], _++_, append-assoc, append-nil}
 use Prim.Native.Nat.{ℕ, _+_, _-_, _≤_, _<_}
 use native.Mathlib.Omega.{arith}
 use lib.ListN.{length, take, drop, length-append, take-append-drop}
 use lib.Seq.{drop-drop, drop-length, take-at, take-append-seam, drop-append-seam}
 use borrow.Rule.Slice.PartMut.{midOf, putMid, mid-len, post-is}
-use Rattle.words.specs.Told.{nowhere, accepted, refused}
+use Rattle.words.specs.Told.{Told, nowhere, accepted, refused}
 use Rattle.words.specs.declared.Refusal.{Refusal}
 use Rattle.words.proofs.Told.{not-both, accepted-once}
 use Rattle.line_format.specs.Calls.{roomOf, over, roomBytes}
@@ -18,6 +19,7 @@ use Rattle.line_writer.specs.declared.answers.Written.{Written}
 use Rattle.line_writer.specs.declared.answers.Written.the-variants.{Bytes, Refused}
 use Rattle.line_refusal.specs.Words.{wordsOf, mostWords, refusalWordsOf, refusalWordsBytes}
 use Rattle.line_refusal.proofs.Words.{words-longest}
+use Rattle.line_sentence.specs.Sentences.{whereText, otherText, sentenceOf, refusalSentenceOf, refusalSentenceBytes}
 
 -- ---- from a place on
 
@@ -81,6 +83,15 @@ module _ (t u v buf : List ℕ) where
       let told = text-front ((t ++ u) ++ v) buf (omega (arith, three-length)) in
       (ap accepted three-length ∙ told .0, told .1)
 
+-- three texts that are the parts of a sentence are told as the sentence
+pub sentence-told : (number place earlier : ℕ) (buf : List ℕ) {t u v left : List ℕ} {told : Told ℕ}
+    → t ≡ whereText number place → u ≡ wordsOf number → v ≡ otherText number earlier
+    → (told ≡ roomOf ((t ++ u) ++ v) buf) × (left ≡ roomBytes ((t ++ u) ++ v) buf)
+    → (told ≡ refusalSentenceOf number place earlier buf) × (left ≡ refusalSentenceBytes number place earlier buf)
+unfolding refusalSentenceOf refusalSentenceBytes sentenceOf
+sentence-told number place earlier buf {t} {u} {v} {left} {told} e f g h =
+    subst (λ x. (told ≡ roomOf x buf) × (left ≡ roomBytes x buf)) (λ i. (e i ++ f i) ++ g i) h
+
 -- ---- the words in an array of 49 bytes
 
 module _ (number : ℕ) (buf : List ℕ) (room : length buf ≡ mostWords) (w : Written) (told : writtenTold w ≡ refusalWordsOf number buf) where
@@ -89,7 +100,8 @@ module _ (number : ℕ) (buf : List ℕ) (room : length buf ≡ mostWords) (w : 
   fit = text-front (wordsOf number) buf (omega (arith, room, words-longest number))
 
   -- they stand at its front
-  pub words-fit : (n : ℕ) (left : List ℕ) → w ≡ Bytes n → left ≡ refusalWordsBytes number buf → (take n left ≡ wordsOf number) × (n ≡ length (wordsOf number))
+  pub words-fit : (n : ℕ) (left : List ℕ) → w ≡ Bytes n → left ≡ refusalWordsBytes number buf
+      → (take n left ≡ wordsOf number) × (n ≡ length (wordsOf number))
   words-fit n left e l =
       let all : n ≡ length (wordsOf number) = accepted-once (sym (ap writtenTold e) ∙ told ∙ sym (fit .0)) in
       (ap (take n) (l ∙ sym (fit .1)) ∙ take-at (wordsOf number) (drop (length (wordsOf number)) buf) n (sym all), all)

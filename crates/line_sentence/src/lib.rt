@@ -112,7 +112,7 @@ fn write_at(text: &[u8], at: usize, buf: &mut [u8])
     write_text(text, &mut buf[at..]);
 }
 
-// Three texts written one behind the other at the front of a buffer.
+// Three texts, as long as the parts of a sentence may be, written one behind the other at the front of a buffer.
 fn write_three(a: &[u8], b: &[u8], c: &[u8], buf: &mut [u8]) -> Written
     requires { ⌜ length (now a) + length (now b) + length (now c) ≤ 106 ⌝ }
     ensures answer { λ r. ⌜ writtenTold r ≡ roomOf ((now (a .entry) ++ now (b .entry)) ++ now (c .entry)) (now (buf .entry)) ⌝ }

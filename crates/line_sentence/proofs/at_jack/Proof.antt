@@ -2,7 +2,6 @@
 -- Assumes nothing.
 use native.Mathlib.Omega.{arith}
 use borrow.Author.Needs.{needs}
-use Rattle.text_numbers.specs.Decimal.{digitsOf}
 use Rattle.text_numbers.proofs.Lengths.{digits-64}
 use Rattle.line_refusal.specs.Words.{quoted}
 use Rattle.line_writer.proofs.Spelling.{spells-first}

@@ -1,30 +1,26 @@
 -- `line_sentence::refusal_sentence` writes its three parts one behind the other.
 -- Assumes nothing.
-use mathlib.Core.Path.{_≡_, sym, ap, _∙_}
-use mathlib.Core.List.{_++_}
+use mathlib.Core.Path.{sym, ap, _∙_}
 use native.Mathlib.Omega.{arith}
-use lib.ListN.{length, take, length-take}
+use lib.ListN.{length, length-take}
 use borrow.Author.Needs.{needs}
-use Rattle.line_format.specs.Calls.{roomOf, roomBytes}
 use Rattle.line_writer.proofs.Spelling.{spells-within}
 use Rattle.line_refusal.proofs.Words.{words-longest}
-use Rattle.line_sentence.specs.Sentences.{sentenceOf, refusalSentenceOf, refusalSentenceBytes}
 use Rattle.line_sentence.proofs.Lengths.{where-longest, other-longest}
+use Rattle.line_sentence.proofs.Writing.{sentence-told}
 use Rattle.line_sentence.proofs.refusal_sentence.Statement.{statement}
 use Rattle.line_sentence.proofs.refusal_sentence.Tie as tie
 
 -- what is written is the sentence
 returns : tie.Need-returns
-unfolding refusalSentenceOf refusalSentenceBytes sentenceOf
 returns c =
     let t = c .before .before in
     let o = t .before .before .before .before .before .before .before .before in
     let w = o .before in
     let p = w .before in
     let a = p .before .before .args in
-    let same : _ ≡ sentenceOf (a .number) (a .place) (a .earlier) =
-    λ i. (p .where-text .ensures .front i ++ w .words-of .ensures .0 i) ++ o .other-text .ensures .front i in
-    (t .write-three .ensures .0 ∙ ap (λ x. roomOf x (a .buf .now)) same, t .write-three .ensures .1 ∙ ap (λ x. roomBytes x (a .buf .now)) same)
+    let said = sentence-told (a .number) (a .place) (a .earlier) (a .buf .now) in
+    said (p .where-text .ensures .front) (w .words-of .ensures .0) (o .other-text .ensures .front) (t .write-three .ensures)
 
 -- ---- the parts are the fronts of their arrays, and not long
 

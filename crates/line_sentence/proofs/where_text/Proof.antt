@@ -29,16 +29,18 @@ returns-3 c =
     let j = c .before .before in
     let i = j .before .before in
     let a = i .before .args in
-    let line = where-line (a .number) (a .place) (i .if1 .left) (j .before .if2 .left) (either (j .if3 .came) (λ t. inl (t .taken)) (λ t. inr (t .1 .left, t .2 .taken))) in
-    subst (Spells (c .place-text2 .result)) line (c .place-text2 .ensures)
+    let line = where-line (a .number) (a .place) (i .if1 .left) (j .before .if2 .left) in
+    let which = either (j .if3 .came) (λ t. line (inl (t .taken))) (λ t. line (inr (t .1 .left, t .2 .taken))) in
+    subst (Spells (c .place-text2 .result)) which (c .place-text2 .ensures)
 
 returns-4 : tie.Need-returns-4
 returns-4 c =
     let j = c .before in
     let i = j .before in
     let a = i .before .args in
-    let none = where-none (a .number) (a .place) (i .if1 .left) (either (j .if2 .came) (λ t. inl (t .taken)) (λ t. inr (t .3 .left))) in
-    subst (Spells (c .no-text2 .result)) none (c .no-text2 .ensures)
+    let none = where-none (a .number) (a .place) (i .if1 .left) in
+    let which = either (j .if2 .came) (λ t. none (inl (t .taken))) (λ t. none (inr (t .3 .left))) in
+    subst (Spells (c .no-text2 .result)) which (c .no-text2 .ensures)
 
 pub where-text-spec : {M : Type 1} → statement M
 where-text-spec =

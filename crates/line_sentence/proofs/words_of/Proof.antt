@@ -8,7 +8,8 @@ use Rattle.line_sentence.proofs.words_of.Tie as tie
 returns : tie.Need-returns
 returns c =
     let w = c .before .before .before .before in
-    words-fit (w .before .before .args .number) _ (search needs) (w .refusal-words .result) (w .refusal-words .ensures .0) _ _ (c .before .written .given .1) (w .refusal-words .ensures .1)
+    let told = w .refusal-words .ensures in
+    words-fit (w .before .before .args .number) _ (search needs) (w .refusal-words .result) (told .0) _ _ (c .before .written .given .1) (told .1)
 
 -- words are never refused here
 returns-2 : tie.Need-returns-2

@@ -20,7 +20,8 @@ returns-2 c =
     let i = first .before .before in
     let a = i .before .before .before .before .before .args in
     let told = three-front (a .a .now) (a .b .now) (a .c .now) (a .buf .now) (i .if1 .left) in
-    let over = over-three (a .a .now) (a .b .now) (a .c .now) (a .buf .now) _ _ _ (first .write-at .ensures) (second .write-at2 .ensures) (third .write-at3 .ensures) in
+    let all = over-three (a .a .now) (a .b .now) (a .c .now) (a .buf .now) _ _ _ in
+    let over = all (first .write-at .ensures) (second .write-at2 .ensures) (third .write-at3 .ensures) in
     (told .0, over ∙ told .1)
 
 pub write-three-spec : {M : Type 1} → statement M
