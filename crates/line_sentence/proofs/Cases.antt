@@ -15,7 +15,7 @@ pub record Case : Type 0 where
   pub earlier : ℕ
   pub text : String
 
--- (2,3,4,5,3) is the first of them; the last four have words that no call gives
+-- the first is that of (2,3,4,5,3); the last five have words that no refused call gives
 abbrev pub sentences : List Case
 sentences =
     record { number = 4; place = 5; earlier = 2; text = "jack 5: entry equal to an earlier one, at jack 2" }
