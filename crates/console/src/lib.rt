@@ -1,6 +1,7 @@
 // What every command's program shares: its input, its output, and how it ended. A program has no exit status of its own, so it tells its outcome on descriptor
 // 3, in lines that the command's wrapper reads (commands/way.sh). Standard error gets one line, and only where something cannot be read or written.
 use line_refusal::refusal_text;
+use words::Place;
 use words::Refusal;
 use words::refusals::earlier_number;
 ghost use Rattle.io.specs.Counts.{Counts};
@@ -70,6 +71,11 @@ pub fn printed() {
     tell(b"printed\n");
 }
 
+// The second number of a refusal, told to the command.
+fn tell_earlier(place: Place) {
+    tell_number(b"earlier=", earlier_number(place) as u64);
+}
+
 // A refusal's two lines, on standard output and as the outcome, which has its second number too.
 pub fn refused(name: &[u8], f: Refusal) {
     let place = f.place;
@@ -79,6 +85,6 @@ pub fn refused(name: &[u8], f: Refusal) {
     let lines = &bytes[..n];
     if written(name, lines) {
         tell(lines);
-        tell_number(b"earlier=", earlier_number(place) as u64);
+        tell_earlier(place);
     }
 }

@@ -24,5 +24,6 @@ refused-spec =
     slice-aggregate-lines
     (λ c κs. search needs)
     (λ c κs. search needs)
+    (λ c κs. search needs)
     (λ c. search needs)
     (λ c. search needs))
