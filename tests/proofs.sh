@@ -2,7 +2,7 @@
 # next, so batches of four keep two processors busy where batches of two would leave one idle.
 proofs_out=$(mktemp -d)
 {
-    RT_JOBS=${RT_JOBS:-4} rt ci 2>&1
+    RT_JOBS=${RT_JOBS:-6} rt ci 2>&1
     echo $? >"$proofs_out/status"
 } | tee "$proofs_out/log"
 verdict=$(cat "$proofs_out/status")

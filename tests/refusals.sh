@@ -23,7 +23,7 @@ crossed modulo_toward_zero even_block_not_reversed
 crossed even_block_not_reversed values_for_positions
 crossed values_for_positions modulo_toward_zero
 cp crates/listing/must-fail/b_adds_one_above_i_only.edit "$refusals_copy/crates/listing/must-fail/"
-(cd "$refusals_copy" && RT_JOBS=${RT_JOBS:-4} rt must-fail listing) >"$refusals_copy/log" 2>&1
+(cd "$refusals_copy" && RT_JOBS=${RT_JOBS:-6} rt must-fail listing) >"$refusals_copy/log" 2>&1
 named=$(edits_judged "$refusals_copy" | sed -n 's/^\([a-z_0-9]*\/[a-z_0-9]*\): it says .*/\1/p' | sort)
 if [ "$(echo $named)" = 'listing/even_block_not_reversed listing/modulo_toward_zero listing/values_for_positions' ] \
     && grep -q '4 must-fail edits refused' "$refusals_copy/log"; then

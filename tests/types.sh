@@ -28,8 +28,8 @@ twins() {
 }
 # judge: all probes at once, and what was said of each
 judge() {
-    (cd "$types_copy" && RT_JOBS=4 rt check $(echo "$types_twins" | awk 'NF { print $1 "_right" }')) >"$types_copy/rights" 2>&1
-    (cd "$types_copy" && RT_JOBS=4 rt check $(echo "$types_twins" | awk 'NF { print $1 "_wrong" }')) >"$types_copy/wrongs" 2>&1
+    (cd "$types_copy" && RT_JOBS=6 rt check $(echo "$types_twins" | awk 'NF { print $1 "_right" }')) >"$types_copy/rights" 2>&1
+    (cd "$types_copy" && RT_JOBS=6 rt check $(echo "$types_twins" | awk 'NF { print $1 "_wrong" }')) >"$types_copy/wrongs" 2>&1
     while read -r label right wrong error; do
         [ -n "$label" ] || continue
         if grep -q "^rt: ${label}_right proved" "$types_copy/rights"; then
