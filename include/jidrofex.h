@@ -134,10 +134,11 @@ uint8_t jidrofex_refusal_words(uint8_t number, uint8_t *buffer, size_t bytes, ui
 
 /* A refusal as a sentence, for people: its number, and the answer of the call that was refused, of which the first two
  * words are looked at. Before the words of the number stands where the fault is, "jack 5: " for 3, 4 and 5, "line 7: "
- * for any other refusal, nothing where the first word is 0; after those of 4 stands where the other one is, ", at jack
- * 2", and nothing where the second word is 0. So (2,3,4,5,3) has "jack 5: entry equal to an earlier one, at jack 2". Of
- * 0, and of a number that no refusal has, the sentence is the words alone. At the front of the buffer, with no newline
- * and no zero byte; later bytes keep their values. Gives how many bytes it takes. Refused: 2. */
+ * for any other refusal, and nothing where the first word is 0. After the words of 4 stands where the other one is,
+ * ", at jack 2", and nothing where the second word is 0. So the pattern 2,3,4,5,3 is refused with
+ *     jack 5: entry equal to an earlier one, at jack 2
+ * Of 0, and of a number that no refusal has, the sentence is the words alone. It stands at the front of the buffer, no
+ * newline and no zero byte in it; later bytes keep their values. Gives how many bytes it takes. Refused: 2. */
 uint8_t jidrofex_refusal_sentence(uint8_t number, const uint64_t refused[JIDROFEX_ANSWER_WORDS], uint8_t *buffer,
                                   size_t bytes, uint64_t answer[JIDROFEX_ANSWER_WORDS]);
 

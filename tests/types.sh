@@ -59,6 +59,7 @@ types_uses='use words::{Jack, Move, Order, Place, Port};'
 twins order Jack Port "$port_for_jack" 'pub fn probe(a: Jack, b: WORD) -> Order { Order::Swap(a, b) }'
 twins move Jack Port "$port_for_jack" 'pub fn probe(a: Jack, b: WORD) -> Move { Move::Two(a, a, a, b) }'
 twins refusal_place Jack Port "$port_for_jack" 'pub fn probe(b: WORD) -> Place { Place::AtJack(b) }'
+twins refusal_both Jack Port "$port_for_jack" 'pub fn probe(a: Jack, b: WORD) -> Place { Place::AtJacks(a, b) }'
 
 # look-ups: what each takes, and what it gives
 types_over='panel words'

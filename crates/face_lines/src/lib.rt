@@ -7,28 +7,15 @@ use face_values::lines::give_line;
 use face_values::lines::line_in;
 use line_reader::answers::ReadLine;
 use line_reader::order_lines::read_line;
-use line_writer::answers::Written;
+use line_writer::answers::bytes_number;
 use line_writer::order_lines::write_line;
-use words::Numbered;
 ghost use mathlib.Core.Path.{_≡_};
 ghost use Rattle.listing.specs.Limits.{mostPorts, largest64};
-ghost use Rattle.words.specs.Meaning.{numberedTold};
 ghost use Rattle.line_format.specs.Calls.{writeOf, writeBytes};
 ghost use Rattle.line_format.specs.Reading.{readOf};
-ghost use Rattle.line_writer.specs.Answers.{writtenTold};
 ghost use Rattle.face_values.specs.Answers.{numberTold, wordsTold, oneNumber};
 ghost use Rattle.face_values.specs.Lines.{lineIn};
 ghost use Rattle.face_laws.specs.Values.{lineAndPlace};
-
-// How many bytes were written.
-fn bytes_number(written: Written) -> Numbered
-    ensures { λ r. ⌜ numberedTold r ≡ writtenTold written ⌝ }
-{
-    match written {
-        Written::Refused(f) => Numbered::Refused(f),
-        Written::Bytes(n) => Numbered::Is(n as u64),
-    }
-}
 
 // A line written at the front of the buffer.
 #[no_mangle]

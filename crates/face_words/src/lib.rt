@@ -1,10 +1,10 @@
 // The calls for C about the library itself: its version, the words of a refusal, and a refusal as a sentence (include/jidrofex.h).
 use face_values::answers::ANSWER_WORDS;
 use face_values::answers::give;
-use face_values::answers::refuse;
+use face_values::answers::give_numbered;
 use line_refusal::wording::refusal_words;
 use line_sentence::refusal_sentence;
-use line_writer::answers::Written;
+use line_writer::answers::bytes_number;
 ghost use mathlib.Core.Path.{_≡_};
 ghost use lib.ListN.{getD};
 ghost use Rattle.line_refusal.specs.Words.{refusalWordsOf, refusalWordsBytes};
@@ -34,10 +34,7 @@ pub extern "C" fn jidrofex_refusal_words(
     ensures words { λ _. ⌜ now (answer .exit) ≡ wordsTold oneNumber (refusalWordsOf number (now (buffer .entry))) ⌝ }
     ensures bytes { λ _. ⌜ now (buffer .exit) ≡ refusalWordsBytes number (now (buffer .entry)) ⌝ }
 {
-    match refusal_words(number, buffer) {
-        Written::Refused(f) => refuse(f, answer),
-        Written::Bytes(n) => give(answer, n as u64, 0, 0, 0, 0),
-    }
+    give_numbered(bytes_number(refusal_words(number, buffer)), answer)
 }
 
 // A refusal as a sentence, from its number and the first two words of its answer, at the front of the buffer.
@@ -52,8 +49,6 @@ pub extern "C" fn jidrofex_refusal_sentence(
     ensures words { λ _. ⌜ now (answer .exit) ≡ wordsTold oneNumber (refusalSentenceOf number (getD (now (refused .entry)) 0 0) (getD (now (refused .entry)) 1 0) (now (buffer .entry))) ⌝ }
     ensures bytes { λ _. ⌜ now (buffer .exit) ≡ refusalSentenceBytes number (getD (now (refused .entry)) 0 0) (getD (now (refused .entry)) 1 0) (now (buffer .entry)) ⌝ }
 {
-    match refusal_sentence(number, refused[0], refused[1], buffer) {
-        Written::Refused(f) => refuse(f, answer),
-        Written::Bytes(bytes) => give(answer, bytes as u64, 0, 0, 0, 0),
-    }
+    let written = refusal_sentence(number, refused[0], refused[1], buffer);
+    give_numbered(bytes_number(written), answer)
 }

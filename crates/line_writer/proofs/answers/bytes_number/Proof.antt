@@ -1,10 +1,10 @@
--- `face_lines::bytes_number`: the bytes, or the refusal.
+-- `line_writer::answers::bytes_number`: the bytes, or the refusal.
 -- Assumes nothing.
 use mathlib.Core.Path.{sym, ap}
 use borrow.Author.Needs.{needs}
 use Rattle.line_writer.specs.Answers.{writtenTold}
-use Rattle.face_lines.proofs.bytes_number.Statement.{statement}
-use Rattle.face_lines.proofs.bytes_number.Tie as tie
+use Rattle.line_writer.proofs.answers.bytes_number.Statement.{statement}
+use Rattle.line_writer.proofs.answers.bytes_number.Tie as tie
 
 returns : tie.Need-returns
 returns c = ap writtenTold (sym (c .before .written .given .1))
