@@ -10,8 +10,8 @@ use native.Mathlib.Omega.{arith}
 use lib.Dec.{eqb}
 use lib.ListN.{length}
 use Rattle.listing.specs.Limits.{mostPorts}
-use Rattle.words.specs.Told.{Told, accepted, refused, nowhere, toldAlone, then, need}
-use Rattle.words.proofs.Told.{then-passes, then-alone}
+use Rattle.words.specs.Told.{Told, accepted, refused, nowhere, EachRefusal, toldAlone, then, need}
+use Rattle.words.proofs.Told.{then-passes, then-alone, each-accepted, each-refused, each-then}
 use Rattle.pattern_check.specs.Calls.{checkAs, paperCheck}
 use Rattle.pattern_check.specs.Jacks.{Second}
 use Rattle.pattern_check.proofs.Alone.{check-alone}
@@ -23,9 +23,7 @@ use Rattle.campaign_state.specs.declared.State.{State}
 use Rattle.campaign_onward.specs.Calls.{panelIn, fitTold, resumeOf}
 use Rattle.face_state.specs.States.{stateIn}
 use Rattle.face_laws.specs.Calls.{onWords, resumeTold}
-use Rattle.demands.specs.One.{EachRefusal}
 use Rattle.demands.specs.Jacks.{TellsBoth, paperPanel, BothJacks}
-use Rattle.demands.proofs.Numbers.{never, at-once, both-so}
 
 -- ---- a call that goes on from the check
 
@@ -43,7 +41,7 @@ module _ (pattern : Bool) (p : List ℕ) where
   on-both : {A : Type 0} (go : Unit {0} → Told A) → ((x : Unit {0}) → Plain p (go x))
       → TellsBoth pattern p (then (checkAs pattern mostPorts p) go) (then (paperCheck pattern mostPorts p) go)
   on-both go plain = record {
-    second = both-so (Second p) (checkAs pattern mostPorts p) go (check-second pattern mostPorts p) (λ x. plain x .second);
+    second = each-then (Second p) (checkAs pattern mostPorts p) go (check-second pattern mostPorts p) (λ x. plain x .second);
     passed = then-passes (checkAs pattern mostPorts p) go;
     stays = then-alone (checkAs pattern mostPorts p) go (λ x. plain x .alone) ∙ ap (λ t. then t go) (check-alone pattern mostPorts p);
   }
@@ -52,11 +50,11 @@ module _ (pattern : Bool) (p : List ℕ) where
 
 module _ {A : Type 0} (p : List ℕ) where
   plain-accepted : (a : A) → Plain p (accepted a)
-  plain-accepted a = record { second = never (Second p) a; alone = refl }
+  plain-accepted a = record { second = each-accepted (Second p) a; alone = refl }
 
   -- a refusal at no place, of any number but 4
   plain-refused : (k : ℕ) → k ≢ 4 → let told : Told A = refused k nowhere in Plain p told
-  plain-refused k d = record { second = at-once (Second p) k nowhere (none-second p k nowhere d refl); alone = refl }
+  plain-refused k d = record { second = each-refused (Second p) k nowhere (none-second p k nowhere d refl); alone = refl }
 
   plain-cond : (b : Bool) (t u : Told A) → Plain p t → Plain p u → Plain p (cond b t u)
   plain-cond true t u h g = h

@@ -13,7 +13,8 @@ use Rattle.listing.specs.Orders.{Order}
 use Rattle.listing.specs.Limits.{mostPorts, largest64}
 use Rattle.listing.specs.Count.{count}
 use Rattle.listing.proofs.Numbers.{either}
-use Rattle.words.specs.Told.{Told, Spot, nowhere, atJack, atJacks, accepted, refused, earlierNumber}
+use Rattle.words.specs.Told.{Told, Spot, nowhere, atJack, atJacks, accepted, refused, earlierNumber, EachRefusal}
+use Rattle.words.proofs.Told.{each-accepted, each-refused}
 use Rattle.words.specs.declared.Line.{Line}
 use Rattle.pattern_check.specs.Faults.{Fault, sound, outside, repeated, ownJack, faultOf, faultTold}
 use Rattle.pattern_check.specs.Calls.{checkAs, checkOf}
@@ -45,10 +46,10 @@ use Rattle.printing.specs.declared.Rehearsal.{Rehearsal}
 use Rattle.campaign_onward.specs.Calls.{whereOf, statusOf, panelIn, fitTold, resumeOf, resumedOf, goesOn}
 use Rattle.printing.proofs.Refused.{refused-first, rehearsal-stays, bytes-stay as line-bytes-stay}
 use Rattle.plan_rules.specs.Planned.{device}
-use Rattle.demands.specs.One.{OneOf, EachRefusal, Listed, Refuses, Keeps, RefusesAs, DemandOne}
+use Rattle.demands.specs.One.{OneOf, Listed, Refuses, Keeps, RefusesAs, DemandOne}
 use Rattle.demands.proofs.PlanNumbers.{plan-numbers}
 use Rattle.demands.proofs.Jacks.{panel-second}
-use Rattle.demands.proofs.Numbers.{never, at-once, from-accepted, from-refused, from-then, from-need, from-cond, from-sized, answer-cond, answer-refusal, kept}
+use Rattle.demands.proofs.Numbers.{from-accepted, from-refused, from-then, from-need, from-cond, from-sized, answer-cond, answer-refusal, kept}
 
 -- ---- patterns
 
@@ -58,7 +59,7 @@ ofPattern = 1 ∷ 3 ∷ 4 ∷ 5 ∷ []
 fault-numbers : (f : Fault) → Refuses ofPattern (faultTold f (tt {0}))
 fault-numbers sound = from-accepted ofPattern tt
 fault-numbers (outside j) = from-refused ofPattern 3 (atJack j) refl (inr (inl refl))
-fault-numbers (repeated j i) = at-once (Listed ofPattern) 4 (atJacks j i) (inr (inr (inl refl)), λ d. absurd (d refl))
+fault-numbers (repeated j i) = each-refused (Listed ofPattern) 4 (atJacks j i) (inr (inr (inl refl)), λ d. absurd (d refl))
 fault-numbers (ownJack j) = from-refused ofPattern 5 (atJack j) refl (inr (inr (inr (inl refl))))
 
 check-numbers : (p : List ℕ) → Refuses ofPattern (checkOf mostPorts p)
@@ -218,12 +219,12 @@ rehearsal-numbers room r =
 
 -- and they name no place
 fill-nowhere : (n : ℕ) (a : model.Answer) → EachRefusal (λ k s. earlierNumber s ≡ 0) (stopTold n (sequel a))
-fill-nowhere n (movement o) = never _ _
-fill-nowhere n (mark m r) = never _ _
-fill-nowhere n (theEnd m) = never _ _
-fill-nowhere n taken = never _ _
-fill-nowhere zero (refusal k) = at-once _ k nowhere refl
-fill-nowhere (suc n) (refusal k) = never _ _
+fill-nowhere n (movement o) = each-accepted _ _
+fill-nowhere n (mark m r) = each-accepted _ _
+fill-nowhere n (theEnd m) = each-accepted _ _
+fill-nowhere n taken = each-accepted _ _
+fill-nowhere zero (refusal k) = each-refused _ k nowhere refl
+fill-nowhere (suc n) (refusal k) = each-accepted _ _
 
 -- a refused call leaves the state as it was, fit or not
 pub state-kept : (c : Call) (s : State) (k : ℕ) → answerOf c s ≡ refusal k → leftOf c s ≡ s

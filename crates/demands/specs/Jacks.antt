@@ -9,7 +9,7 @@ use Rattle.listing.specs.Limits.{mostPorts}
 use Rattle.listing.specs.Pattern.{entry}
 use Rattle.listing.specs.Rank as list
 use Rattle.listing.specs.Neighbours.{moveBeside}
-use Rattle.words.specs.Told.{Told, accepted, refused, nowhere, toldAlone, then}
+use Rattle.words.specs.Told.{Told, accepted, refused, nowhere, EachRefusal, toldAlone, then}
 use Rattle.words.specs.Shape.{oneOf, lineFits}
 use Rattle.words.specs.declared.Line.{Line}
 use Rattle.pattern_check.specs.Faults.{seek}
@@ -20,7 +20,6 @@ use Rattle.panel.specs.Calls.{portOf, jackOf, carryOf}
 use Rattle.campaign_state.specs.declared.State.{State}
 use Rattle.campaign_onward.specs.Calls.{fitTold, resumeOf}
 use Rattle.face_laws.specs.Calls.{states, onWords, resumeTold}
-use Rattle.demands.specs.One.{EachRefusal}
 
 -- what a call tells of p, which is checked as a pattern or as a panel; `paper` is what it told before there was a second number
 pub record TellsBoth {A : Type 0} (pattern : Bool) (p : List ℕ) (told paper : Told A) : Type 0 where

@@ -9,7 +9,7 @@ use mathlib.Core.List.{List, [], _∷_}
 use lib.IntN.{ℤ}
 use lib.ListN.{length}
 use Rattle.listing.specs.Limits.{mostPorts, largest64}
-use Rattle.words.specs.Told.{Told, Spot, accepted, refused, earlierNumber, then}
+use Rattle.words.specs.Told.{Told, Spot, accepted, refused, earlierNumber, EachRefusal, then}
 use Rattle.words.specs.declared.Line.{Line}
 use Rattle.pattern_check.specs.Calls.{checkAs, checkOf}
 use Rattle.patterns.specs.Calls.{countOf, rankOf, unrankOf, unrankBytes, besideOf, besideBytes, stepOf}
@@ -32,10 +32,6 @@ use Rattle.printing.specs.declared.Rehearsal.{Rehearsal}
 abbrev pub OneOf : List ℕ → ℕ → Type 0
 OneOf [] k = ⊥
 OneOf (n ∷ ns) k = (k ≡ n) ⊎ OneOf ns k
-
--- so is each refusal that a call may tell
-abbrev pub EachRefusal : {A : Type 0} → (ℕ → Spot → Type 0) → Told A → Type 0
-EachRefusal Is t = (k : ℕ) (s : Spot) → t ≡ refused k s → Is k s
 
 -- refusal k is one of these numbers, and but for 4 its second number is 0 (request 7; of 4 it is what `demands.Jacks.BothJacks` says)
 abbrev pub Listed : List ℕ → ℕ → Spot → Type 0

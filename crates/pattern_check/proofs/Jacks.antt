@@ -1,7 +1,7 @@
 -- Both jacks of a repeated port. The first fault stands at a jack, and the jacks before it have none (`fault-at`): so the earlier jack that holds the port is one
 -- alone (`repeated-equal`), and the check names both (`check-second`).
 -- Assumes nothing.
-use mathlib.Core.Path.{_≡_, refl, sym, ap, subst, _∙_}
+use mathlib.Core.Path.{_≡_, refl, sym, ap, _∙_}
 use mathlib.Core.Logic.{_≢_}
 use mathlib.Core.Bool.{Bool, true, false, cond, true≢false}
 use mathlib.Core.List.{List}
@@ -13,7 +13,8 @@ use borrow.Author.Tests.{eqb-true, eqb-false}
 use Rattle.listing.specs.Numbers.{before}
 use Rattle.listing.specs.Pattern.{entry}
 use Rattle.listing.proofs.Numbers.{either, test, below?, same?, suc-before}
-use Rattle.words.specs.Told.{Told, Spot, nowhere, atJack, atJacks, earlierNumber, refused}
+use Rattle.words.specs.Told.{Spot, nowhere, atJack, atJacks, earlierNumber, refused, EachRefusal}
+use Rattle.words.proofs.Told.{each-accepted, each-refused}
 use Rattle.pattern_check.specs.Faults.{Fault, sound, outside, repeated, ownJack, seek, earlier, faultAt, firstOf, faultFrom, faultOf, faultTold}
 use Rattle.pattern_check.specs.Calls.{inSize, sized, checkAs}
 use Rattle.pattern_check.specs.Jacks.{Equal, Second}
@@ -132,23 +133,16 @@ repeated-equal pattern p j i e = at-equal pattern p j i (fault-at pattern (lengt
 pub none-second : (p : List ℕ) (k : ℕ) (s : Spot) → k ≢ 4 → earlierNumber s ≡ 0 → Second p k s
 none-second p k s d e = record { both = λ h. absurd (d h); other = λ h. e }
 
--- what is told has the second number of the refusal that it is
-told-is : {A : Type 0} (p : List ℕ) (i : ℕ) (r : Spot) → Second p i r → (k : ℕ) (s : Spot) → let told : Told A = refused i r in told ≡ refused k s → Second p k s
-told-is p i r h k s e =
-    let number : i ≡ k = cc in
-    let place : r ≡ s = cc in
-    subst (λ x. Second p x s) number (subst (Second p i) place h)
-
 -- by the number of ports, and the fault that is found
 told-second : (size pattern : Bool) (p : List ℕ) (f : Fault) → faultOf pattern p ≡ f
-    → (k : ℕ) (s : Spot) → cond size (faultTold f (tt {0})) (refused 1 nowhere) ≡ refused k s → Second p k s
-told-second false pattern p f e = told-is p 1 nowhere (none-second p 1 nowhere (λ h. omega arith) refl)
-told-second true pattern p sound e = λ k s h. absurd (true≢false (cc))
-told-second true pattern p (outside j) e = told-is p 3 (atJack j) (none-second p 3 (atJack j) (λ h. omega arith) refl)
-told-second true pattern p (repeated j i) e = told-is p 4 (atJacks j i) (record { both = λ h. repeated-equal pattern p j i e; other = λ d. absurd (d refl) })
-told-second true pattern p (ownJack j) e = told-is p 5 (atJack j) (none-second p 5 (atJack j) (λ h. omega arith) refl)
+    → EachRefusal (Second p) (cond size (faultTold f (tt {0})) (refused 1 nowhere))
+told-second false pattern p f e = each-refused (Second p) 1 nowhere (none-second p 1 nowhere (λ h. omega arith) refl)
+told-second true pattern p sound e = each-accepted (Second p) tt
+told-second true pattern p (outside j) e = each-refused (Second p) 3 (atJack j) (none-second p 3 (atJack j) (λ h. omega arith) refl)
+told-second true pattern p (repeated j i) e = each-refused (Second p) 4 (atJacks j i) (record { both = λ h. repeated-equal pattern p j i e; other = λ d. absurd (d refl) })
+told-second true pattern p (ownJack j) e = each-refused (Second p) 5 (atJack j) (none-second p 5 (atJack j) (λ h. omega arith) refl)
 
 -- a refusal of the check has its second number
-pub check-second : (pattern : Bool) (most : ℕ) (p : List ℕ) (k : ℕ) (s : Spot) → checkAs pattern most p ≡ refused k s → Second p k s
+pub check-second : (pattern : Bool) (most : ℕ) (p : List ℕ) → EachRefusal (Second p) (checkAs pattern most p)
 unfolding checkAs sized
-check-second pattern most p k s e = told-second (inSize most (length p)) pattern p (faultOf pattern p) refl k s e
+check-second pattern most p = told-second (inSize most (length p)) pattern p (faultOf pattern p) refl

@@ -1,10 +1,11 @@
--- What was accepted after several steps was accepted by each, and what is refused is told whole, by a call that goes on too.
+-- What was accepted after several steps was accepted by each. What is refused is told whole, by a call that goes on too; and what is so of each refusal, by how a
+-- call is built (the laws that begin with `each`).
 -- Assumes nothing.
-use mathlib.Core.Path.{_≡_, refl, ap}
-use mathlib.Core.Bool.{true≢false}
+use mathlib.Core.Path.{_≡_, refl, ap, subst}
+use mathlib.Core.Bool.{Bool, true, false, cond, true≢false}
 use mathlib.Core.Option.{Option, none, some}
 use Prim.Native.Nat.{ℕ}
-use Rattle.words.specs.Told.{Told, Spot, accepted, refused, toldAlone, then, need}
+use Rattle.words.specs.Told.{Told, Spot, accepted, refused, EachRefusal, toldAlone, then, need}
 
 -- what is refused is not accepted
 pub not-both : {A : Type 0} {k : ℕ} {s : Spot} {a : A} → refused k s ≡ accepted a → ⊥
@@ -37,3 +38,31 @@ then-passes told go k s e = ap (λ t. then t go) e
 pub then-alone : {A B : Type 0} (told : Told A) (go : A → Told B) → ((a : A) → toldAlone (go a) ≡ go a) → toldAlone (then told go) ≡ then (toldAlone told) go
 then-alone (accepted a) go plain = plain a
 then-alone (refused k s) go plain = refl
+
+-- ---- what is so of each refusal
+
+module _ (Is : ℕ → Spot → Type 0) where
+  -- what is accepted has none
+  pub each-accepted : {A : Type 0} (a : A) → EachRefusal Is (accepted a)
+  each-accepted a k s e = absurd (true≢false (cc))
+
+  pub each-refused : {A : Type 0} (i : ℕ) (r : Spot) → Is i r → let told : Told A = refused i r in EachRefusal Is told
+  each-refused i r h k s e =
+      let number : i ≡ k = cc in
+      let place : r ≡ s = cc in
+      subst (λ x. Is x s) number (subst (Is i) place h)
+
+  -- a call that goes on
+  pub each-then : {A B : Type 0} (told : Told A) (go : A → Told B) → EachRefusal Is told → ((a : A) → EachRefusal Is (go a)) → EachRefusal Is (then told go)
+  each-then (accepted a) go h g = g a
+  each-then (refused i r) go h g = λ k s e. h k s (cc)
+
+  -- what has to be there
+  pub each-need : {A : Type 0} (i : ℕ) (r : Spot) (o : Option A) → Is i r → EachRefusal Is (need i r o)
+  each-need i r none h = each-refused i r h
+  each-need i r (some a) h = each-accepted a
+
+  -- a test
+  pub each-cond : {A : Type 0} (b : Bool) (t u : Told A) → EachRefusal Is t → EachRefusal Is u → EachRefusal Is (cond b t u)
+  each-cond true t u h g = h
+  each-cond false t u h g = g

@@ -2,6 +2,7 @@
 -- (request 7, 'Say where the other one is').
 -- Assumes nothing.
 use Prim.Native.Nat.{ℕ}
+use mathlib.Core.Path.{_≡_}
 use mathlib.Core.List.{List}
 use mathlib.Core.Option.{Option, none, some}
 
@@ -31,6 +32,10 @@ earlierNumber (atLine l) = 0
 pub data Told (A : Type 0) : Type 0 where
   accepted : A → Told A
   refused : ℕ → Spot → Told A
+
+-- so is each refusal that is told
+abbrev pub EachRefusal : {A : Type 0} → (ℕ → Spot → Type 0) → Told A → Type 0
+EachRefusal Is t = (k : ℕ) (s : Spot) → t ≡ refused k s → Is k s
 
 -- what is told without the second number: the number and the place that the paper lists
 abbrev pub placeAlone : Spot → Spot
