@@ -16,4 +16,4 @@ returns c =
 pub jidrofex-refusal-sentence-spec : {M : Type 1} → statement M
 jidrofex-refusal-sentence-spec =
     tie.close
-    (tie.spec (λ c κs. search needs) (λ c κs. search needs) (λ c κs. search needs) (λ c. search needs) returns)
+    (tie.spec (λ c. search needs) (λ c. search needs) (λ c κs. search needs) (λ c κs. search needs) (λ c κs. search needs) (λ c. search needs) returns)
