@@ -140,8 +140,9 @@ header_edits() {
         return
     fi
     header_judge 0 &
+    header_other=$!
     header_judge 1
-    wait
+    wait "$header_other"
     cat "$header_out/judged-0" "$header_out/judged-1" >"$header_out/judged"
     if [ "$(wc -l <"$header_out/judged")" -ne "$(wc -l <"$header_out/edits/list")" ]; then
         fail 'header: not every edited header was judged'

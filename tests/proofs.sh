@@ -1,5 +1,5 @@
 # The proofs: `rt ci` from nothing, shown as it goes. Its own last line is counted into ours. It waits for each batch of crates and edits before it starts the
-# next, so batches of four keep two processors busy where batches of two would leave one idle.
+# next, so batches of six keep two processors busy where batches of two would leave one idle.
 proofs_out=$(mktemp -d)
 {
     RT_JOBS=${RT_JOBS:-6} rt ci 2>&1
