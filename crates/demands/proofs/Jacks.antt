@@ -2,7 +2,7 @@
 -- Assumes nothing.
 use mathlib.Core.Path.{_≡_, refl, ap, _∙_}
 use mathlib.Core.Logic.{_≢_}
-use mathlib.Core.Bool.{Bool, true, false, cond, _&&_}
+use mathlib.Core.Bool.{Bool, true, false, _&&_}
 use mathlib.Core.List.{List}
 use mathlib.Core.Option.{Option, none, some}
 use Prim.Native.Nat.{ℕ}
@@ -10,6 +10,7 @@ use native.Mathlib.Omega.{arith}
 use lib.Dec.{eqb}
 use lib.ListN.{length}
 use Rattle.listing.specs.Limits.{mostPorts}
+use Rattle.listing.proofs.Numbers.{of-test}
 use Rattle.words.specs.Told.{Told, accepted, refused, nowhere, EachRefusal, toldAlone, then, need}
 use Rattle.words.proofs.Told.{then-passes, then-alone, each-accepted, each-refused, each-then}
 use Rattle.pattern_check.specs.Calls.{checkAs, paperCheck}
@@ -56,13 +57,9 @@ module _ {A : Type 0} (p : List ℕ) where
   plain-refused : (k : ℕ) → k ≢ 4 → let told : Told A = refused k nowhere in Plain p told
   plain-refused k d = record { second = each-refused (Second p) k nowhere (none-second p k nowhere d refl); alone = refl }
 
-  plain-cond : (b : Bool) (t u : Told A) → Plain p t → Plain p u → Plain p (cond b t u)
-  plain-cond true t u h g = h
-  plain-cond false t u h g = g
-
 fit-plain : (s : State) (p : List ℕ) → Plain p (fitTold s p)
 unfolding fitTold
-fit-plain s p = plain-cond p (eqb (length p) (s .plan .ports) && fit (panelIn p s)) _ _ (plain-accepted p tt) (plain-refused p 15 (λ e. omega arith))
+fit-plain s p = of-test (Plain p) (eqb (length p) (s .plan .ports) && fit (panelIn p s)) _ _ (plain-accepted p tt) (plain-refused p 15 (λ e. omega arith))
 
 words-plain : (p : List ℕ) (o : Option State) → Plain p (then (need 15 nowhere o) (λ s. fitTold s p))
 words-plain p none = plain-refused p 15 (λ e. omega arith)
@@ -72,7 +69,7 @@ words-plain p (some s) = fit-plain s p
 
 panel-both : {A : Type 0} (p : List ℕ) (fits : Bool) (a : A) → TellsBoth false p (onPanel mostPorts p fits a) (paperPanel p fits a)
 unfolding onPanel
-panel-both p fits a = on-both false p _ (λ x. plain-cond p fits _ _ (plain-accepted p a) (plain-refused p 17 (λ e. omega arith)))
+panel-both p fits a = on-both false p _ (λ x. of-test (Plain p) fits _ _ (plain-accepted p a) (plain-refused p 17 (λ e. omega arith)))
 
 pub panel-second : {A : Type 0} (p : List ℕ) (fits : Bool) (a : A) → EachRefusal (Second p) (onPanel mostPorts p fits a)
 panel-second p fits a = panel-both p fits a .second

@@ -1,43 +1,31 @@
--- Which numbers a call can be refused with, by how its definition is built: calls that go on, tests, sizes.
+-- Which numbers a call can be refused with, by how its definition is built: what has to be there, sizes.
 -- Assumes nothing.
 use mathlib.Core.Path.{_≡_, refl, ap, subst}
-use mathlib.Core.Bool.{Bool, true, false, cond}
 use mathlib.Core.List.{List}
 use mathlib.Core.Option.{Option}
 use Prim.Native.Nat.{ℕ}
-use Rattle.words.specs.Told.{Told, Spot, nowhere, accepted, refused, earlierNumber, then, need, leaves}
-use Rattle.words.proofs.Told.{each-accepted, each-refused, each-then, each-need, each-cond}
+use Rattle.listing.proofs.Numbers.{of-test}
+use Rattle.words.specs.Told.{Told, Spot, nowhere, refused, earlierNumber, need, leaves}
+use Rattle.words.proofs.Told.{each-refused, each-need}
 use Rattle.pattern_check.specs.Calls.{inSize, sized}
-use Rattle.promise.specs.Campaign.{Answer, refusal}
+use Rattle.promise.specs.Campaign.{refusal}
 use Rattle.demands.specs.One.{OneOf, Listed, Refuses, Keeps, RefusesAs}
 
 module _ (ns : List ℕ) where
-  pub from-accepted : {A : Type 0} (a : A) → Refuses ns (accepted a)
-  from-accepted = each-accepted (Listed ns)
-
   -- a refusal at a place with no second number
   pub from-refused : {A : Type 0} (i : ℕ) (r : Spot) → earlierNumber r ≡ 0 → OneOf ns i → Refuses {A = A} ns (refused i r)
   from-refused i r z h = each-refused (Listed ns) i r (h, λ d. z)
 
-  pub from-then : {A B : Type 0} (t : Told A) (f : A → Told B) → Refuses ns t → ((a : A) → Refuses ns (f a)) → Refuses ns (then t f)
-  from-then = each-then (Listed ns)
-
+  -- what has to be there
   pub from-need : {A : Type 0} (i : ℕ) (r : Spot) (o : Option A) → earlierNumber r ≡ 0 → OneOf ns i → Refuses ns (need i r o)
   from-need i r o z h = each-need (Listed ns) i r o (h, λ d. z)
-
-  pub from-cond : {A : Type 0} (b : Bool) (t u : Told A) → Refuses ns t → Refuses ns u → Refuses ns (cond b t u)
-  from-cond = each-cond (Listed ns)
 
   -- 2 to `most` ports
   pub from-sized : {A : Type 0} (most n : ℕ) (t : Told A) → OneOf ns 1 → Refuses ns t → Refuses ns (sized most n t)
   unfolding sized
-  from-sized most n t one h = from-cond (inSize most n) t _ h (from-refused 1 nowhere refl one)
+  from-sized most n t one h = of-test (Refuses ns) (inSize most n) t _ h (from-refused 1 nowhere refl one)
 
-  -- a test of the campaign's
-  pub answer-cond : (b : Bool) (x y : Answer) → RefusesAs ns x → RefusesAs ns y → RefusesAs ns (cond b x y)
-  answer-cond true x y h g = h
-  answer-cond false x y h g = g
-
+  -- a refusal of the campaign's
   pub answer-refusal : (i : ℕ) → OneOf ns i → RefusesAs ns (refusal i)
   answer-refusal i h k e = subst (OneOf ns) (cc) h
 

@@ -12,9 +12,9 @@ use lib.ListN.{length, drop}
 use Rattle.listing.specs.Orders.{Order}
 use Rattle.listing.specs.Limits.{mostPorts, largest64}
 use Rattle.listing.specs.Count.{count}
-use Rattle.listing.proofs.Numbers.{either}
+use Rattle.listing.proofs.Numbers.{either, of-test}
 use Rattle.words.specs.Told.{Told, Spot, nowhere, atJack, atJacks, accepted, refused, earlierNumber, EachRefusal}
-use Rattle.words.proofs.Told.{each-accepted, each-refused}
+use Rattle.words.proofs.Told.{each-accepted, each-refused, each-then}
 use Rattle.words.specs.declared.Line.{Line}
 use Rattle.pattern_check.specs.Faults.{Fault, sound, outside, repeated, ownJack, faultOf, faultTold}
 use Rattle.pattern_check.specs.Calls.{checkAs, checkOf}
@@ -49,7 +49,7 @@ use Rattle.plan_rules.specs.Planned.{device}
 use Rattle.demands.specs.One.{OneOf, Listed, Refuses, Keeps, RefusesAs, DemandOne}
 use Rattle.demands.proofs.PlanNumbers.{plan-numbers}
 use Rattle.demands.proofs.Jacks.{panel-second}
-use Rattle.demands.proofs.Numbers.{from-accepted, from-refused, from-then, from-need, from-cond, from-sized, answer-cond, answer-refusal, kept}
+use Rattle.demands.proofs.Numbers.{from-refused, from-need, from-sized, answer-refusal, kept}
 
 -- ---- patterns
 
@@ -57,7 +57,7 @@ abbrev ofPattern : List ℕ
 ofPattern = 1 ∷ 3 ∷ 4 ∷ 5 ∷ []
 
 fault-numbers : (f : Fault) → Refuses ofPattern (faultTold f (tt {0}))
-fault-numbers sound = from-accepted ofPattern tt
+fault-numbers sound = each-accepted (Listed ofPattern) tt
 fault-numbers (outside j) = from-refused ofPattern 3 (atJack j) refl (inr (inl refl))
 fault-numbers (repeated j i) = each-refused (Listed ofPattern) 4 (atJacks j i) (inr (inr (inl refl)), λ d. absurd (d refl))
 fault-numbers (ownJack j) = from-refused ofPattern 5 (atJack j) refl (inr (inr (inr (inl refl))))
@@ -69,7 +69,7 @@ check-numbers p = from-sized ofPattern mostPorts (length p) _ (inl refl) (fault-
 -- 1 and then 6
 ranked-numbers : {A : Type 0} (n r : ℕ) (a : A) → Refuses (1 ∷ 6 ∷ []) (ranked n r (accepted a))
 unfolding ranked
-ranked-numbers n r a = from-cond (1 ∷ 6 ∷ []) (ltb r (count n)) _ _ (from-accepted (1 ∷ 6 ∷ []) a) (from-refused (1 ∷ 6 ∷ []) 6 nowhere refl (inr (inl refl)))
+ranked-numbers n r a = of-test (Refuses (1 ∷ 6 ∷ [])) (ltb r (count n)) _ _ (each-accepted (Listed (1 ∷ 6 ∷ [])) a) (from-refused (1 ∷ 6 ∷ []) 6 nowhere refl (inr (inl refl)))
 
 -- ---- the panel
 
@@ -98,13 +98,13 @@ ofLine = 11 ∷ 7 ∷ 8 ∷ 17 ∷ []
 
 fitting-numbers : (ns : List ℕ) (l : Line) → OneOf ns 17 → Refuses ns (fitting mostPorts l)
 unfolding fitting
-fitting-numbers ns l h = from-cond ns (lineFits mostPorts l) _ _ (from-accepted ns l) (from-refused ns 17 nowhere refl h)
+fitting-numbers ns l h = of-test (Refuses ns) (lineFits mostPorts l) _ _ (each-accepted (Listed ns) l) (from-refused ns 17 nowhere refl h)
 
 keyed-numbers : (k : Kind) (o : Option (List ℕ)) (other : Told Line) → Refuses ofLine other → Refuses ofLine (keyed largest64 mostPorts k o other)
 unfolding numbersTold
 keyed-numbers k none other h = h
 keyed-numbers k (some v) other h =
-    from-then ofLine _ _ (from-need ofLine 8 nowhere (numbersIn largest64 (commas k) v) refl (inr (inr (inl refl))))
+    each-then (Listed ofLine) _ _ (from-need ofLine 8 nowhere (numbersIn largest64 (commas k) v) refl (inr (inr (inl refl))))
     (λ x. fitting-numbers ofLine (lineOf k x) (inr (inr (inr (inl refl)))))
 
 line-numbers : (t : List ℕ) → Refuses ofLine (lineIn largest64 mostPorts t)
@@ -119,18 +119,18 @@ line-numbers t =
 read-numbers : (t : List ℕ) (place : ℕ) → Refuses ofLine (readOf largest64 mostPorts t place)
 unfolding readOf
 read-numbers t place =
-    from-then ofLine _ _ (from-need ofLine 11 nowhere (cut newline (drop place t)) refl (inl refl))
-    (λ p. from-then ofLine _ _ (line-numbers (p .front)) (λ l. from-accepted ofLine _))
+    each-then (Listed ofLine) _ _ (from-need ofLine 11 nowhere (cut newline (drop place t)) refl (inl refl))
+    (λ p. each-then (Listed ofLine) _ _ (line-numbers (p .front)) (λ l. each-accepted (Listed ofLine) _))
 
 -- a text that has to fit
 room-numbers : (ns : List ℕ) → OneOf ns 2 → (t buf : List ℕ) → Refuses ns (roomOf t buf)
 unfolding roomOf
-room-numbers ns h t buf = from-cond ns (leb (length t) (length buf)) _ _ (from-accepted ns _) (from-refused ns 2 nowhere refl h)
+room-numbers ns h t buf = of-test (Refuses ns) (leb (length t) (length buf)) _ _ (each-accepted (Listed ns) _) (from-refused ns 2 nowhere refl h)
 
 write-numbers : (l : Line) (buf : List ℕ) → Refuses (17 ∷ 2 ∷ []) (writeOf mostPorts l buf)
 unfolding writeOf
 write-numbers l buf =
-    from-then (17 ∷ 2 ∷ []) _ _ (fitting-numbers (17 ∷ 2 ∷ []) l (inl refl)) (λ k. room-numbers (17 ∷ 2 ∷ []) (inr (inl refl)) (lineText k) buf)
+    each-then (Listed (17 ∷ 2 ∷ [])) _ _ (fitting-numbers (17 ∷ 2 ∷ []) l (inl refl)) (λ k. room-numbers (17 ∷ 2 ∷ []) (inr (inl refl)) (lineText k) buf)
 
 -- ---- a refusal's words, and a refusal as a sentence
 
@@ -162,7 +162,7 @@ ofReport = 15 ∷ 14 ∷ 12 ∷ 16 ∷ []
 -- what is offered is an order, a mark, the end, or 15
 offer-numbers : (ns : List ℕ) → OneOf ns 15 → (C : Setting) (m : model.State) → RefusesAs ns (offer C m)
 unfolding offer
-offer-numbers ns h C m = answer-cond ns (m .ended) _ _ (λ k e. absurd (true≢false (cc))) (by (todo C m))
+offer-numbers ns h C m = of-test (RefusesAs ns) (m .ended) _ _ (λ k e. absurd (true≢false (cc))) (by (todo C m))
   where
     by : (o : Option (List Order)) → RefusesAs ns (next C m o)
     by none = answer-refusal ns 15 h
@@ -174,10 +174,10 @@ unfolding answerOf answer
 request-numbers room s =
     let C = settingOf s in
     let m = momentOf s in
-    answer-cond ofRequest (placesFit s) _ _
-    (answer-cond ofRequest (not (model.fit C m)) _ _ (answer-refusal ofRequest 15 (inl refl))
-    (answer-cond ofRequest (m .standing) _ _ (answer-refusal ofRequest 13 (inr (inl refl)))
-    (answer-cond ofRequest (ltb room (C .width (offer C m))) _ _ (answer-refusal ofRequest 2 (inr (inr (inl refl)))) (offer-numbers ofRequest (inl refl) C m))))
+    of-test (RefusesAs ofRequest) (placesFit s) _ _
+    (of-test (RefusesAs ofRequest) (not (model.fit C m)) _ _ (answer-refusal ofRequest 15 (inl refl))
+    (of-test (RefusesAs ofRequest) (m .standing) _ _ (answer-refusal ofRequest 13 (inr (inl refl)))
+    (of-test (RefusesAs ofRequest) (ltb room (C .width (offer C m))) _ _ (answer-refusal ofRequest 2 (inr (inr (inl refl)))) (offer-numbers ofRequest (inl refl) C m))))
     (answer-refusal ofRequest 15 (inl refl))
 
 report-numbers : (o : Option ℕ) (kind : ℕ) (s : State) → RefusesAs ofReport (answerOf (reportTo o kind) s)
@@ -185,18 +185,18 @@ unfolding answerOf answer
 report-numbers o kind s =
     let C = settingOf s in
     let m = momentOf s in
-    answer-cond ofReport (placesFit s) _ _
-    (answer-cond ofReport (not (model.fit C m)) _ _ (answer-refusal ofReport 15 (inl refl))
-    (answer-cond ofReport (ltb 2 kind) _ _ (answer-refusal ofReport 14 (inr (inl refl)))
-    (answer-cond ofReport (not (standsFor C o m)) _ _ (answer-refusal ofReport 12 (inr (inr (inl refl))))
-    (answer-cond ofReport (isError (reportOf kind) && leb (C .limit) (m .errors)) _ _ (answer-refusal ofReport 16 (inr (inr (inr (inl refl)))))
+    of-test (RefusesAs ofReport) (placesFit s) _ _
+    (of-test (RefusesAs ofReport) (not (model.fit C m)) _ _ (answer-refusal ofReport 15 (inl refl))
+    (of-test (RefusesAs ofReport) (ltb 2 kind) _ _ (answer-refusal ofReport 14 (inr (inl refl)))
+    (of-test (RefusesAs ofReport) (not (standsFor C o m)) _ _ (answer-refusal ofReport 12 (inr (inr (inl refl))))
+    (of-test (RefusesAs ofReport) (isError (reportOf kind) && leb (C .limit) (m .errors)) _ _ (answer-refusal ofReport 16 (inr (inr (inr (inl refl)))))
     (λ k e. absurd (true≢false (cc)))))))
     (answer-refusal ofReport 15 (inl refl))
 
 -- a state that is unfit
 status-numbers : (s : State) → Refuses (15 ∷ []) (statusOf s)
 unfolding statusOf
-status-numbers s = from-cond (15 ∷ []) (fit s) _ _ (from-accepted (15 ∷ []) (whereOf s)) (from-refused (15 ∷ []) 15 nowhere refl (inl refl))
+status-numbers s = of-test (Refuses (15 ∷ [])) (fit s) _ _ (each-accepted (Listed (15 ∷ [])) (whereOf s)) (from-refused (15 ∷ []) 15 nowhere refl (inl refl))
 
 -- the plan's numbers
 abbrev ofPlan : List ℕ
@@ -212,9 +212,9 @@ rehearsal-numbers room r =
     let s = stateOf r in
     let C = settingOf s in
     let m = momentOf s in
-    answer-cond ofFill (placesFit s) _ _
-    (answer-cond ofFill (not (model.fit C m)) _ _ (answer-refusal ofFill 15 (inl refl))
-    (answer-cond ofFill (ltb room (C .width (offer C m))) _ _ (answer-refusal ofFill 2 (inr (inl refl))) (offer-numbers ofFill (inl refl) C m)))
+    of-test (RefusesAs ofFill) (placesFit s) _ _
+    (of-test (RefusesAs ofFill) (not (model.fit C m)) _ _ (answer-refusal ofFill 15 (inl refl))
+    (of-test (RefusesAs ofFill) (ltb room (C .width (offer C m))) _ _ (answer-refusal ofFill 2 (inr (inl refl))) (offer-numbers ofFill (inl refl) C m)))
     (answer-refusal ofFill 15 (inl refl))
 
 -- and they name no place
@@ -243,11 +243,11 @@ ofResume = 1 ∷ 3 ∷ 4 ∷ 15 ∷ []
 resume-numbers : (s : State) (p : List ℕ) → Refuses ofResume (resumeOf s p)
 unfolding resumeOf fitTold
 resume-numbers s p =
-    from-then ofResume (checkAs false mostPorts p) _
+    each-then (Listed ofResume) (checkAs false mostPorts p) _
     (λ k q e.
     let h = check-panel-numbers p k q e in
     (either (h .0) inl (λ h. either h (λ x. inr (inl x)) (λ h. either h (λ x. inr (inr (inl x))) absurd)), h .1))
-    (λ x. from-cond ofResume (eqb (length p) (s .plan .ports) && fit (panelIn p s)) _ _ (from-accepted ofResume tt) (from-refused ofResume 15 nowhere refl (inr (inr (inr (inl refl))))))
+    (λ x. of-test (Refuses ofResume) (eqb (length p) (s .plan .ports) && fit (panelIn p s)) _ _ (each-accepted (Listed ofResume) tt) (from-refused ofResume 15 nowhere refl (inr (inr (inr (inl refl))))))
 
 resume-kept : (s : State) (p : List ℕ) (k : ℕ) (q : Spot) → resumeOf s p ≡ refused k q → resumedOf s p ≡ s
 unfolding resumedOf
@@ -260,11 +260,11 @@ unfolding countOf rankOf unrankOf unrankBytes besideOf besideBytes stepOf portOf
 demand-one = record {
   check = check-numbers;
   checkPanel = check-panel-numbers;
-  count = λ n. from-sized (1 ∷ []) mostPorts n _ (inl refl) (from-accepted (1 ∷ []) _);
-  rank = λ p. from-then ofPattern _ _ (check-numbers p) (λ ok. from-accepted ofPattern _);
+  count = λ n. from-sized (1 ∷ []) mostPorts n _ (inl refl) (each-accepted (Listed (1 ∷ [])) _);
+  rank = λ p. each-then (Listed ofPattern) _ _ (check-numbers p) (λ ok. each-accepted (Listed ofPattern) _);
   unrank = λ r out. from-sized (1 ∷ 6 ∷ []) mostPorts (length out) _ (inl refl) (ranked-numbers (length out) r tt);
   unrankKeeps = λ r out. kept (unrankOf mostPorts r out) _ out;
-  beside = λ back p. from-then ofPattern _ _ (check-numbers p) (λ ok. from-accepted ofPattern _);
+  beside = λ back p. each-then (Listed ofPattern) _ _ (check-numbers p) (λ ok. each-accepted (Listed ofPattern) _);
   besideKeeps = λ back p. kept (besideOf mostPorts back p) _ p;
   step = λ n r z. from-sized (1 ∷ 6 ∷ []) mostPorts n _ (inl refl) (ranked-numbers n r _);
   portAt = λ p j. panel-numbers p _ _;
@@ -287,7 +287,7 @@ demand-one = record {
   bufferKeeps = buffer-kept;
   resume = resume-numbers;
   resumeKeeps = resume-kept;
-  rehearse = λ t. from-then ofPlan _ _ (plan-numbers device 1 t) (λ p. from-accepted ofPlan tt);
+  rehearse = λ t. each-then (Listed ofPlan) _ _ (plan-numbers device 1 t) (λ p. each-accepted (Listed ofPlan) tt);
   fill = λ room r k p e. (rehearsal-numbers room r k (refused-first room (stateOf r) k p e), λ d. fill-nowhere (length (linesIn room (stateOf r) .text)) (linesIn room (stateOf r) .stop) k p e);
   fillKeeps = rehearsal-stays;
   fillBytesKeeps = λ r buf. line-bytes-stay (stateOf r) buf;

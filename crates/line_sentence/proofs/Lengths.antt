@@ -2,7 +2,7 @@
 -- Assumes nothing.
 use mathlib.Core.Path.{_≡_, refl}
 use mathlib.Core.Logic.{_≢_}
-use mathlib.Core.Bool.{Bool, true, false, cond}
+use mathlib.Core.Bool.{Bool, cond}
 use mathlib.Core.List.{List, [], _++_}
 use Prim.Native.Nat.{ℕ, _+_, _≤_}
 use native.Mathlib.Omega.{arith}
@@ -10,17 +10,17 @@ use lib.Dec.{eqb}
 use lib.ListN.{length, length-append}
 use borrow.Author.Tests.{ne-eqb}
 use Rattle.listing.specs.Limits.{largest64}
-use Rattle.listing.proofs.Numbers.{either, same?}
+use Rattle.listing.proofs.Numbers.{either, of-test, same?}
+use Rattle.words.specs.Shape.{within}
 use Rattle.text_numbers.specs.Decimal.{digitsOf}
 use Rattle.text_numbers.proofs.Lengths.{digits-64, digits-largest}
 use Rattle.line_refusal.specs.Words.{quoted, wordsOf}
 use Rattle.line_refusal.proofs.Words.{words-longest}
-use Rattle.line_sentence.specs.Sentences.{within, placeName, placed, whereText, otherText, sentenceOf, mostSentence}
+use Rattle.line_sentence.specs.Sentences.{placeName, placed, whereText, otherText, sentenceOf, mostSentence}
 
 -- of two texts, each at most n long
 of-two : (t : Bool) (x y : List ℕ) (n : ℕ) → length x ≤ n → length y ≤ n → length (cond t x y) ≤ n
-of-two true x y n h k = h
-of-two false x y n h k = k
+of-two t x y n = of-test (λ z. length z ≤ n) t x y
 
 -- a name has 5 bytes
 name-length : (number : ℕ) → length (placeName number) ≤ 5

@@ -2,31 +2,15 @@
 -- Assumes nothing.
 use mathlib.Core.Path.{_≡_, refl}
 use mathlib.Core.Logic.{_≢_, _⊎_}
-use mathlib.Core.Bool.{Bool, true, false, _&&_}
 use mathlib.Core.List.{[], _++_}
 use Prim.Native.Nat.{ℕ, _≤_, _<_}
 use native.Mathlib.Omega.{arith}
-use lib.Dec.{leb}
-use borrow.Author.Tests.{eq-eqb, ne-eqb, le-leb, lt-leb}
+use borrow.Author.Tests.{eq-eqb, ne-eqb}
 use Rattle.listing.proofs.Numbers.{either}
+use Rattle.words.proofs.Shape.{within-true, within-below, within-above}
 use Rattle.text_numbers.specs.Decimal.{digitsOf}
 use Rattle.line_refusal.specs.Words.{quoted}
-use Rattle.line_sentence.specs.Sentences.{within, placed, whereText, otherText}
-
--- ---- from a to b
-
-pub within-true : (a b n : ℕ) → a ≤ n → n ≤ b → within a b n ≡ true
-within-true a b n h k = rw (le-leb a n h, le-leb n b k) refl
-
-pub within-below : (a b n : ℕ) → n < a → within a b n ≡ false
-within-below a b n h = rw (lt-leb a n h) refl
-
-pub within-above : (a b n : ℕ) → b < n → within a b n ≡ false
-within-above a b n h = rw (lt-leb n b h) (neither (leb a n))
-  where
-    neither : (t : Bool) → (t && false) ≡ false
-    neither true = refl
-    neither false = refl
+use Rattle.line_sentence.specs.Sentences.{placed, whereText, otherText}
 
 -- ---- where the fault is
 

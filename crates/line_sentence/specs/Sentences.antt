@@ -1,17 +1,14 @@
 -- A refusal as a sentence, for people (include/jidrofex.h, 'A refusal as a sentence'), and what the call that writes it tells and leaves.
 -- Assumes nothing.
 use Prim.Native.Nat.{ℕ}
-use mathlib.Core.Bool.{Bool, cond, _&&_}
+use mathlib.Core.Bool.{cond}
 use mathlib.Core.List.{List, [], _++_}
-use lib.Dec.{eqb, leb}
+use lib.Dec.{eqb}
 use Rattle.words.specs.Told.{Told}
+use Rattle.words.specs.Shape.{within}
 use Rattle.text_numbers.specs.Decimal.{digitsOf}
 use Rattle.line_format.specs.Calls.{roomOf, roomBytes}
 use Rattle.line_refusal.specs.Words.{quoted, wordsOf}
-
--- from a to b
-abbrev pub within : ℕ → ℕ → ℕ → Bool
-within a b number = leb a number && leb number b
 
 -- what a place is: a jack for 3, 4 and 5, a line for any other refusal
 abbrev pub placeName : ℕ → List ℕ

@@ -3,7 +3,7 @@
 -- Assumes nothing.
 use mathlib.Core.Path.{_≡_, refl, sym, ap, _∙_}
 use mathlib.Core.Logic.{_≢_, _⊎_, inl, inr}
-use mathlib.Core.Bool.{Bool, true, false, not}
+use mathlib.Core.Bool.{Bool, true, false, not, cond}
 use Prim.Native.Nat.{ℕ, zero, suc, _-_, _%_, _≤_, _<_}
 use native.Mathlib.Omega.{arith}
 use lib.Dec.{eqb, leb, ltb}
@@ -21,6 +21,11 @@ either (inr b) f g = g b
 pub test : (t : Bool) → (t ≡ true) ⊎ (t ≡ false)
 test true = inl refl
 test false = inr refl
+
+-- what is so of two values is so of the one that a test takes
+pub of-test : {A : Type 0} (Is : A → Type 0) (t : Bool) (a b : A) → Is a → Is b → Is (cond t a b)
+of-test Is true a b h k = h
+of-test Is false a b h k = k
 
 -- a is below b or not
 pub below? : (a b : ℕ) → (a < b) ⊎ (b ≤ a)

@@ -1,16 +1,16 @@
 -- What the check tells (the paper, 'Refusal numbers': length comes before all). The most ports of the device is a parameter.
 -- Assumes nothing.
 use Prim.Native.Nat.{ℕ}
-use mathlib.Core.Bool.{Bool, true, cond, _&&_}
+use mathlib.Core.Bool.{Bool, true, cond}
 use mathlib.Core.List.{List}
-use lib.Dec.{leb}
 use lib.ListN.{length}
 use Rattle.words.specs.Told.{Told, refused, nowhere}
+use Rattle.words.specs.Shape.{within}
 use Rattle.pattern_check.specs.Faults.{faultOf, faultTold, paperTold}
 
 -- whether the ports are 2 to most
 unfoldable pub inSize : ℕ → ℕ → Bool
-inSize most n = leb 2 n && leb n most
+inSize most n = within 2 most n
 
 -- refusal 1 unless they are
 unfoldable pub sized : {A : Type 0} → ℕ → ℕ → Told A → Told A

@@ -1,14 +1,14 @@
 -- The test of an order's shape is true exactly if the order is in shape, that of a number exactly if it is among 1..n, that of a line exactly if it fits.
 -- Assumes nothing.
 use mathlib.Core.Path.{_≡_, refl}
-use mathlib.Core.Bool.{Bool, true, not, _&&_, and-eq-true-iff}
+use mathlib.Core.Bool.{Bool, true, false, not, _&&_, and-eq-true-iff}
 use Prim.Native.Nat.{ℕ, _≤_, _<_}
 use native.Mathlib.Omega.{arith}
 use lib.Dec.{eqb, leb, ltb}
-use borrow.Author.Tests.{leb-true, ltb-true, eqb-false, not-true, le-leb, lt-ltb, ne-eqb}
+use borrow.Author.Tests.{leb-true, ltb-true, eqb-false, not-true, le-leb, lt-leb, lt-ltb, ne-eqb}
 use Rattle.listing.specs.Numbers.{Among}
 use Rattle.listing.specs.Orders.{Order, swap, turn, InShape}
-use Rattle.words.specs.Shape.{oneOf, rising, shaped, lineFits, LineFits}
+use Rattle.words.specs.Shape.{within, oneOf, rising, shaped, lineFits, LineFits}
 use Rattle.words.specs.Meaning.{orderOf}
 use Rattle.words.specs.declared.Line.{Line}
 use Rattle.words.specs.declared.Line.the-variants.{Movement, Mark, End}
@@ -19,6 +19,20 @@ both a b e = and-eq-true-iff a b .0 e
 
 -- ---- a number
 
+-- from a to b, before a, and after b
+pub within-true : (a b n : ℕ) → a ≤ n → n ≤ b → within a b n ≡ true
+within-true a b n h k = rw (le-leb a n h, le-leb n b k) refl
+
+pub within-below : (a b n : ℕ) → n < a → within a b n ≡ false
+within-below a b n h = rw (lt-leb a n h) refl
+
+pub within-above : (a b n : ℕ) → b < n → within a b n ≡ false
+within-above a b n h = rw (lt-leb n b h) (neither (leb a n))
+  where
+    neither : (t : Bool) → (t && false) ≡ false
+    neither true = refl
+    neither false = refl
+
 -- a number that passes the test is among 1..n
 pub one-of : (n x : ℕ) → oneOf n x ≡ true → Among n x
 unfolding oneOf
@@ -27,7 +41,7 @@ one-of n x e = let t = both (leb 1 x) (leb x n) e in (leb-true 1 x (t .0), leb-t
 -- and each number among them passes it
 pub among-one : (n x : ℕ) → Among n x → oneOf n x ≡ true
 unfolding oneOf
-among-one n x h = rw (le-leb 1 x (h .0), le-leb x n (h .1))
+among-one n x h = within-true 1 n x (h .0) (h .1)
 
 -- ---- an order
 

@@ -2,7 +2,7 @@
 -- call is built (the laws that begin with `each`).
 -- Assumes nothing.
 use mathlib.Core.Path.{_≡_, refl, ap, subst}
-use mathlib.Core.Bool.{Bool, true, false, cond, true≢false}
+use mathlib.Core.Bool.{true≢false}
 use mathlib.Core.Option.{Option, none, some}
 use Prim.Native.Nat.{ℕ}
 use Rattle.words.specs.Told.{Told, Spot, accepted, refused, EachRefusal, toldAlone, then, need}
@@ -61,8 +61,3 @@ module _ (Is : ℕ → Spot → Type 0) where
   pub each-need : {A : Type 0} (i : ℕ) (r : Spot) (o : Option A) → Is i r → EachRefusal Is (need i r o)
   each-need i r none h = each-refused i r h
   each-need i r (some a) h = each-accepted a
-
-  -- a test
-  pub each-cond : {A : Type 0} (b : Bool) (t u : Told A) → EachRefusal Is t → EachRefusal Is u → EachRefusal Is (cond b t u)
-  each-cond true t u h g = h
-  each-cond false t u h g = g

@@ -8,9 +8,13 @@ use Rattle.words.specs.declared.Line.{Line}
 use Rattle.words.specs.declared.Line.the-variants.{Movement, Mark, End}
 use Rattle.listing.specs.Orders.{Order, swap, turn, InShape}
 
+-- whether x is one of a..b
+abbrev pub within : ℕ → ℕ → ℕ → Bool
+within a b x = leb a x && leb x b
+
 -- whether x is one of 1..n
 unfoldable pub oneOf : ℕ → ℕ → Bool
-oneOf n x = leb 1 x && leb x n
+oneOf n x = within 1 n x
 
 -- whether a comes before b among 1..n
 unfoldable pub rising : ℕ → ℕ → ℕ → Bool
