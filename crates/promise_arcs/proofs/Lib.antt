@@ -1,0 +1,9 @@
+pub mod Circle
+pub mod Members
+pub mod Only
+pub mod Sums
+pub mod Finding
+pub mod Legs
+pub mod Named
+pub mod Loops
+pub mod Cases

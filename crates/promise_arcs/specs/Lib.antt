@@ -1,0 +1,4 @@
+pub mod Circle
+pub mod Gaps
+pub mod Named
+pub mod Finding
