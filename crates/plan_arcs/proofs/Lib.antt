@@ -1,0 +1,3 @@
+pub mod Arcs
+pub mod Loops
+pub mod Found
