@@ -33,7 +33,7 @@ extern "C" {
 
 /* The version of this header. It goes up by one whenever a call, a constant or the words of a state change;
  * jidrofex_version gives that of the library. */
-enum { JIDROFEX_VERSION = 2 };
+enum { JIDROFEX_VERSION = 3 };
 
 /* The version of the words of a state, which is saved with them. It goes up by one whenever they change, and only then:
  * a library of a later version goes on with a saved state of the same words. */
@@ -47,6 +47,7 @@ enum {
     JIDROFEX_LINE_BYTES = 45,     /* the longest line of a campaign or a rehearsal, its newline included */
     JIDROFEX_ANY_LINE_BYTES = 47, /* the longest line that jidrofex_write_line writes: a mark that no campaign has */
     JIDROFEX_PLAN_BYTES = 801,    /* the longest plan that is accepted */
+    JIDROFEX_GAP_NUMBERS = 34,    /* enough numbers for the gaps of any plan */
     JIDROFEX_WORDS_BYTES = 49,    /* the longest words of a refusal */
     JIDROFEX_SENTENCE_BYTES = 86  /* the longest sentence of a refusal, whatever words it is made of */
 };
@@ -55,7 +56,7 @@ enum {
 enum {
     JIDROFEX_ACCEPTED = 0,
     JIDROFEX_REFUSED_PORTS = 1,        /* ports, or the length of a pattern or panel, not 2 to 20 */
-    JIDROFEX_REFUSED_ROOM = 2,         /* the line, or the words, do not fit the buffer */
+    JIDROFEX_REFUSED_ROOM = 2,         /* the line, the words or the gaps do not fit the buffer */
     JIDROFEX_REFUSED_OUTSIDE = 3,      /* at that jack: an entry outside 1..n */
     JIDROFEX_REFUSED_REPEATED = 4,     /* at that jack: an entry equal to an earlier one, at the second number's jack */
     JIDROFEX_REFUSED_OWN_JACK = 5,     /* at that jack: an entry equal to its own jack (patterns only) */
@@ -192,6 +193,16 @@ uint8_t jidrofex_write_line(const uint64_t line[JIDROFEX_LINE_WORDS], uint8_t *b
 /* The line that starts at a place of the text. Gives the line's four words and the place after its newline.
  * Refused: 11, 7, 8, 17. */
 uint8_t jidrofex_read_line(const uint8_t *text, size_t bytes, size_t place, uint64_t answer[JIDROFEX_ANSWER_WORDS]);
+
+/* ---- a plan, before its campaign starts */
+
+/* How many different ranks a plan names, each once however many legs name it, and the gaps: the longest arcs of the
+ * circuit that no leg names. A gap that runs through rank 0 is one arc. Two numbers for each gap stand at the front of
+ * `gaps`, its first rank and how many ranks it has, in rising order of first rank; later numbers keep their values.
+ * JIDROFEX_GAP_NUMBERS numbers are enough for any plan. Gives how many ranks are named, and how many gaps there are.
+ * Refused: 11, 7, 8, 1, 9, 6, 10, 2 (fewer numbers than two for each gap). */
+uint8_t jidrofex_named(const uint8_t *text, size_t bytes, uint64_t *gaps, size_t numbers,
+                       uint64_t answer[JIDROFEX_ANSWER_WORDS]);
 
 /* ---- a campaign */
 

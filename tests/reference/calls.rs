@@ -22,6 +22,7 @@ pub enum Name {
     Carry,
     WriteLine,
     ReadLine { place: usize },
+    Named,
     Begin,
     Status,
     Request,
@@ -32,8 +33,8 @@ pub enum Name {
     Orders,
 }
 
-/// A call: its name, the bytes lent to it (a pattern, a panel, a text or a buffer) and the words (a line, a state, a rehearsal or a
-/// refused answer).
+/// A call: its name, the bytes lent to it (a pattern, a panel, a text or a buffer) and the words (a line, a state, a rehearsal, a
+/// refused answer or what gaps are written to).
 #[derive(Clone)]
 pub struct Call {
     pub name: Name,
@@ -96,6 +97,7 @@ pub struct Side {
     carry: fn(&mut [u8], &[u64; 4], &mut Answer) -> u8,
     write_line: fn(&[u64; 4], &mut [u8], &mut Answer) -> u8,
     read_line: fn(&[u8], usize, &mut Answer) -> u8,
+    named: fn(&[u8], &mut [u64], &mut Answer) -> u8,
     begin: fn(&[u8], &mut [u64], &mut Answer) -> u8,
     status: fn(&[u64], &mut Answer) -> u8,
     request: fn(&mut [u64], &mut [u8], &mut Answer) -> u8,
@@ -127,6 +129,7 @@ macro_rules! side {
             carry: calls::carry,
             write_line: calls::write_line,
             read_line: calls::read_line,
+            named: calls::named,
             begin: calls::begin,
             status: calls::status,
             request: calls::request,
@@ -204,6 +207,7 @@ impl Side {
             Name::Carry => (self.carry)(bytes, line(words), answer),
             Name::WriteLine => (self.write_line)(line(words), bytes, answer),
             Name::ReadLine { place } => (self.read_line)(bytes, place, answer),
+            Name::Named => (self.named)(bytes, words, answer),
             Name::Begin => (self.begin)(bytes, words, answer),
             Name::Status => (self.status)(words, answer),
             Name::Request => (self.request)(words, bytes, answer),

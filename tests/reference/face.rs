@@ -22,6 +22,7 @@ pub mod raw {
         pub fn jidrofex_carry(panel: *mut u8, ports: usize, line: *const u64, answer: *mut u64) -> u8;
         pub fn jidrofex_write_line(line: *const u64, buffer: *mut u8, bytes: usize, answer: *mut u64) -> u8;
         pub fn jidrofex_read_line(text: *const u8, bytes: usize, place: usize, answer: *mut u64) -> u8;
+        pub fn jidrofex_named(text: *const u8, bytes: usize, gaps: *mut u64, numbers: usize, answer: *mut u64) -> u8;
         pub fn jidrofex_begin(text: *const u8, bytes: usize, state: *mut u64, words: usize, answer: *mut u64) -> u8;
         pub fn jidrofex_status(state: *const u64, words: usize, answer: *mut u64) -> u8;
         pub fn jidrofex_request(state: *mut u64, words: usize, buffer: *mut u8, bytes: usize, answer: *mut u64) -> u8;
@@ -95,6 +96,10 @@ pub fn write_line(line: &[u64; 4], buffer: &mut [u8], answer: &mut Answer) -> u8
 
 pub fn read_line(text: &[u8], place: usize, answer: &mut Answer) -> u8 {
     unsafe { raw::jidrofex_read_line(text.as_ptr(), text.len(), place, answer.as_mut_ptr()) }
+}
+
+pub fn named(text: &[u8], gaps: &mut [u64], answer: &mut Answer) -> u8 {
+    unsafe { raw::jidrofex_named(text.as_ptr(), text.len(), gaps.as_mut_ptr(), gaps.len(), answer.as_mut_ptr()) }
 }
 
 pub fn begin(text: &[u8], state: &mut [u64], answer: &mut Answer) -> u8 {

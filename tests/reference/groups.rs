@@ -4,6 +4,7 @@
 mod campaigns;
 mod fixed;
 mod made;
+mod named;
 mod numbered;
 mod rehearsals;
 mod repeated;
@@ -15,6 +16,7 @@ use crate::Harness;
 use campaigns::*;
 use fixed::*;
 use made::*;
+use named::*;
 use numbered::*;
 use rehearsals::*;
 use repeated::*;
@@ -34,7 +36,7 @@ pub struct Group {
     pub meets: &'static [u8],
 }
 
-pub const GROUPS: [Group; 42] = [
+pub const GROUPS: [Group; 46] = [
     Group { name: "library", work: Work::Whole(library), meets: &[0, 2] },
     Group { name: "count", work: Work::Whole(count), meets: &[0, 1] },
     Group { name: "circuits", work: Work::Whole(circuits), meets: &[0] },
@@ -74,8 +76,12 @@ pub const GROUPS: [Group; 42] = [
     Group { name: "rehearsals", work: Work::Share(3, rehearsals), meets: &[0, 2, 15] },
     Group { name: "damaged rehearsals", work: Work::Share(4, damaged_rehearsals), meets: &[0, 2, 15] },
     Group { name: "random rehearsals", work: Work::Share(2, random_rehearsals), meets: &[0, 15] },
+    Group { name: "named", work: Work::Share(30, named), meets: &[0, 2] },
+    Group { name: "named, damaged plans", work: Work::Share(6, damaged_named), meets: &[0, 1, 2, 6, 7, 8, 9, 10, 11] },
     // fixed sets too, after the shares so that these are not smaller for them
     Group { name: "both jacks", work: Work::Whole(both_jacks), meets: &[3, 4, 5] },
     Group { name: "numbers and places", work: Work::Whole(numbers_and_places), meets: &[3, 4, 5] },
     Group { name: "sentences", work: Work::Whole(sentences), meets: &[0, 2] },
+    Group { name: "named, refusals", work: Work::Whole(named_refusals), meets: &[0, 1, 2, 6, 7, 8, 9, 10, 11] },
+    Group { name: "named, all plans of one and two legs over 2 to 5 ports", work: Work::Whole(small_plans), meets: &[0] },
 ];

@@ -7,6 +7,7 @@
 //! - `panel`: look-ups and orders carried out
 //! - `text`: numbers, order lines, refusals in words and as sentences
 //! - `plan`: the reading of plans
+//! - `named`: how many different ranks a plan names, and its gaps, by a walk and by intervals
 //! - `campaign`: the state, its fitness, where it is, request, report, a report by number, and going on after a power cut
 //! - `printer`: the order printer
 //! - `rehearsal`: lines in bulk, with no counts
@@ -15,6 +16,7 @@
 pub mod campaign;
 pub mod circuit;
 pub mod list;
+pub mod named;
 pub mod panel;
 pub mod plan;
 pub mod printer;
@@ -24,7 +26,7 @@ pub mod text;
 pub mod told;
 
 /// The version of include/jidrofex.h that this is the reference of.
-pub const VERSION: u64 = 2;
+pub const VERSION: u64 = 3;
 
 pub const MOST_PORTS: usize = 20;
 pub const MOST_LEGS: usize = 16;

@@ -1,9 +1,11 @@
 //! The reference held to what is printed: document 000's tables for 4 and 5 ports, the paper's 'Cases to prove' and 'To run', the paper's example;
 //! to the rules of a campaign, the header's words for controllers, both jacks of a repeated entry for every pair of jacks, and demand three on full
-//! circuits; and to itself: three ways to the list (the definition, the procedures, the relations) over every circuit of 2 to 8 ports.
+//! circuits; to what plans name, worked by hand; and to itself: three ways to the list (the definition, the procedures, the relations) over every circuit
+//! of 2 to 8 ports, and two ways to the gaps of a plan.
 //! Ends in a line with the number of comparisons, or in the first one that does not hold.
 
 mod controllers;
+mod gaps;
 mod jacks;
 mod rules;
 mod tables;
@@ -211,6 +213,9 @@ fn main() {
     controllers::status(&mut compared);
     controllers::report_refusals(&mut compared);
     controllers::sent_twice(&mut compared);
+    gaps::worked(&mut compared);
+    gaps::refusals(&mut compared);
+    gaps::small_plans(&mut compared);
     compared.same("the paper's example", print(PLAN), OUTPUT.to_vec());
     let plan = read_plan(PLAN).expect("the paper's plan is accepted");
     let (text, ended, _) = Rehearsal::first(plan.clone()).orders(1024).expect("its orders fit");

@@ -2,6 +2,7 @@
 
 use crate::campaign::{State, Status, WORDS};
 use crate::list::Move;
+use crate::named::Named;
 use crate::plan::read_plan;
 use crate::rehearsal::{Rehearsal, REHEARSAL_WORDS};
 use crate::text::Line;
@@ -144,6 +145,17 @@ pub fn write_line(line: &[u64; 4], buffer: &mut [u8], answer: &mut Answer) -> u8
 
 pub fn read_line(text: &[u8], place: usize, answer: &mut Answer) -> u8 {
     tell(text::read_line(text, place).map(|(line, after)| line_words(line, after)), answer)
+}
+
+/// '2 also when the slice is shorter than twice the number of gaps, after all plan refusals'; 'the slice beyond the gaps keeps its numbers'.
+pub fn named(text: &[u8], gaps: &mut [u64], answer: &mut Answer) -> u8 {
+    let found = read_plan(text).map(|plan| Named::by_intervals(&plan));
+    let put = found.and_then(|named| {
+        let numbers = named.numbers();
+        gaps.get_mut(..numbers.len()).ok_or(refusal(2))?.copy_from_slice(&numbers);
+        Ok([named.ranks as u64, named.gaps.len() as u64, 0, 0, 0])
+    });
+    tell(put, answer)
 }
 
 /// 'A refused text leaves a state all zeros, unless the state's length is wrong (15).'

@@ -65,7 +65,7 @@ pub fn joins(h: &mut Harness) {
     }
 }
 
-/// Texts about and past the 1,024 bytes that the printer judges: `begin` judges all of a text, however long.
+/// Texts about and past the 1,024 bytes that the printer judges: `begin` and `named` judge all of a text, however long.
 pub fn long_texts(h: &mut Harness) {
     let mut rng = Rng::of(h.seed, "long texts", 0);
     for bytes in [801, 802, 1023, 1024, 1025, 4096, 65_536] {
@@ -74,7 +74,8 @@ pub fn long_texts(h: &mut Harness) {
         let plan = b"ports=4\nlegs=1\nstart=0\nrun=0\n";
         let and_more = [plan.as_slice(), &vec![b'\n'; bytes - plan.len()]].concat();
         for text in [one_line, no_newline, and_more] {
-            begin_on(h, &mut rng, text, WORDS);
+            begin_on(h, &mut rng, text.clone(), WORDS);
+            h.compare(Call::on_both(Name::Named, text, vec![7; 2]));
         }
     }
 }
@@ -89,7 +90,7 @@ pub fn null_pointers(h: &mut Harness) {
     const LINE: [u64; 4] = [4, 5, 0, 0];
     const PANEL: [u8; 2] = [2, 1];
     const REFUSED: [u64; 5] = [5, 2, 0, 0, 0];
-    let calls: [(&str, Made, Made); 23] = [
+    let calls: [(&str, Made, Made); 24] = [
         ("refusal_words", |a| unsafe { raw::jidrofex_refusal_words(0, null_mut(), 0, a.as_mut_ptr()) }, |a| told::refusal_words(0, &mut [], a)),
         (
             "refusal_sentence",
@@ -108,6 +109,7 @@ pub fn null_pointers(h: &mut Harness) {
         ("write_line", |a| unsafe { raw::jidrofex_write_line(LINE.as_ptr(), null_mut(), 0, a.as_mut_ptr()) }, |a| told::write_line(&LINE, &mut [], a)),
         ("read_line", |a| unsafe { raw::jidrofex_read_line(null(), 0, 0, a.as_mut_ptr()) }, |a| told::read_line(&[], 0, a)),
         ("read_line", |a| unsafe { raw::jidrofex_read_line(null(), 0, usize::MAX, a.as_mut_ptr()) }, |a| told::read_line(&[], usize::MAX, a)),
+        ("named", |a| unsafe { raw::jidrofex_named(null(), 0, null_mut(), 0, a.as_mut_ptr()) }, |a| told::named(&[], &mut [], a)),
         ("begin", |a| unsafe { raw::jidrofex_begin(null(), 0, null_mut(), 0, a.as_mut_ptr()) }, |a| told::begin(&[], &mut [], a)),
         ("rehearse", |a| unsafe { raw::jidrofex_rehearse(null(), 0, null_mut(), 0, a.as_mut_ptr()) }, |a| told::rehearse(&[], &mut [], a)),
         ("status", |a| unsafe { raw::jidrofex_status(null(), 0, a.as_mut_ptr()) }, |a| told::status(&[], a)),
