@@ -33,9 +33,9 @@ use Rattle.asking.specs.Questions.{patternKey, markKey, Asked, oneLine, 
 use Rattle.asking.specs.Questions.{markField, ofMark, markOf, markedAsked, markAsked, wholePlan, wholeAsked}
 use Rattle.asking.specs.Answers.{markIn, QuestionIs}
 use Rattle.asking.specs.declared.Question.{Question}
-use Rattle.words.proofs.Told.{then-accepted}
+use Rattle.words.proofs.Told.{then-accepted, accepted-gives}
 use Rattle.plan_rules.proofs.Within.{held-ruled}
-use Rattle.asking.proofs.Ruled.{accepted-gives, held-legs}
+use Rattle.asking.proofs.Ruled.{held-legs}
 
 -- what an accepted question is: a plan that fits, and a mark of it
 pub record Asks (a : Asked) : Type 0 where

@@ -29,7 +29,7 @@ use Rattle.text_entries.specs.Entries.{entriesIn, entryByte, fewEntries, entrie
 use Rattle.text_entries.specs.Pieces.{givenIn, EntriesIs}
 use Rattle.asking.specs.Questions.{oneLine, patternLeg, ofPattern, entriesAsked, patternAsked}
 use Rattle.text_entries.specs.declared.Entries.{Entries}
-use Rattle.asking.proofs.Ruled.{refused-on, accepted-gives}
+use Rattle.words.proofs.Told.{refused-on, accepted-gives}
 
 -- ---- the newline
 

@@ -13,16 +13,16 @@ use Rattle.words.specs.Told.{Spot, accepted, refused, nowhere}
 use Rattle.words.specs.declared.Signed.{Signed}
 use Rattle.words.specs.declared.Outcome.the-variants.{Accepted}
 use Rattle.plan_lines.specs.Field.{Got, fieldIn}
-use Rattle.plan_rules.specs.Planned.{Planned, Fits, device}
-use Rattle.plan_rules.specs.Places.{placed, heldOf}
-use Rattle.plan_rules.specs.Rules.{legsOf, planRuled}
+use Rattle.plan_rules.specs.Planned.{Planned}
+use Rattle.plan_rules.specs.Places.{heldOf}
+use Rattle.plan_rules.specs.Rules.{legsOf}
 use Rattle.plan_rules.specs.declared.Plan.{Plan}
 use Rattle.plans.specs.Calls.{readPlanOf}
-use Rattle.plans.proofs.Plans.{accepted-fits}
+use Rattle.plans.proofs.Read.{read-plan-is, read-fits, read-places}
 use Rattle.asking.specs.Questions.{markField, markOf, markedAsked, markAsked, wholePlan, wholeAsked}
 use Rattle.asking.specs.Answers.{QuestionIs}
-use Rattle.plan_rules.proofs.Within.{held-ruled}
-use Rattle.asking.proofs.Ruled.{judged, refused-on, accepted-gives, held-marks}
+use Rattle.words.proofs.Told.{refused-on}
+use Rattle.asking.proofs.Ruled.{judged, held-marks}
 
 -- ---- a plan that was refused
 
@@ -37,28 +37,18 @@ marked-refused m t k s e = refused-on (readPlanOf t) (λ p. tt) (markOf m) k s e
 -- ---- one that was read
 
 module _ (t : List ℕ) (plan : Plan) (ok : accepted tt ≡ judged (readPlanOf t)) (e : plan ≡ heldOf mostLegs (readPlanOf t)) where
-  -- the plan that it is, in its places
+  -- the plan that it is
   is-plan : (p : Planned) × (readPlanOf t ≡ accepted p)
-  is-plan = accepted-gives (readPlanOf t) (λ p. tt) tt ok
-
-  fits : Fits device (is-plan .0)
-  fits = accepted-fits device 1 t (is-plan .0) (is-plan .1) .0
-
-  in-places : plan ≡ placed mostLegs (is-plan .0)
-  in-places = e ∙ ap (heldOf mostLegs) (is-plan .1)
-
-  -- it is within the rules
-  pub read-ruled : planRuled device plan ≡ true
-  read-ruled = ap (planRuled device) in-places ∙ held-ruled (is-plan .0) fits
+  is-plan = read-plan-is t ok
 
   -- its marks are those of its places
   its-marks : marks (take (plan .legs) (legsOf plan)) ≡ marks (is-plan .0 .legs)
-  its-marks = ap (λ q. marks (take (q .legs) (legsOf q))) in-places ∙ held-marks (is-plan .0) fits
+  its-marks = ap (λ q. marks (take (q .legs) (legsOf q))) (read-places t plan ok e) ∙ held-marks (is-plan .0) (read-fits t ok)
 
   -- all of it is asked for
   pub whole-read : QuestionIs (wholeAsked t) (record { judged = Accepted; plan = plan; whole = true; mark = 0 })
   unfolding wholeAsked
-  whole-read = rw (is-plan .1) (record { judged = refl; plan = in-places; whole = refl; mark = refl })
+  whole-read = rw (is-plan .1) (record { judged = refl; plan = read-places t plan ok e; whole = refl; mark = refl })
 
   -- a mark that it has
   pub mark-read : (k : ℕ) → k < marks (take (plan .legs) (legsOf plan))
@@ -66,7 +56,7 @@ module _ (t : List ℕ) (plan : Plan) (ok : accepted tt ≡ judged (readPlanOf t
   unfolding markedAsked
   mark-read k h =
       let below : k < marks (is-plan .0 .legs) = omega (arith, its-marks) in
-      rw (is-plan .1, lt-ltb k (marks (is-plan .0 .legs)) below) (record { judged = refl; plan = in-places; whole = refl; mark = refl })
+      rw (is-plan .1, lt-ltb k (marks (is-plan .0 .legs)) below) (record { judged = refl; plan = read-places t plan ok e; whole = refl; mark = refl })
 
   -- a mark that it does not have
   pub no-such-mark : (k : ℕ) → marks (take (plan .legs) (legsOf plan)) ≤ k → refused 6 nowhere ≡ markedAsked k t

@@ -1,5 +1,6 @@
 pub mod Legs
 pub mod Plans
+pub mod Read
 pub mod Turns
 pub mod Longest
 pub mod Only

@@ -1,7 +1,7 @@
 -- What was accepted after several steps was accepted by each. What is refused is told whole, by a call that goes on too; and what is so of each refusal, by how a
 -- call is built (the laws that begin with `each`).
 -- Assumes nothing.
-use mathlib.Core.Path.{_≡_, refl, ap, subst}
+use mathlib.Core.Path.{_≡_, refl, sym, ap, subst}
 use mathlib.Core.Bool.{true≢false}
 use mathlib.Core.Option.{Option, none, some}
 use Prim.Native.Nat.{ℕ}
@@ -29,6 +29,16 @@ pub record Both {A B : Type 0} (told : Told A) (go : A → Told B) (b : B) : Typ
 pub then-accepted : {A B : Type 0} (told : Told A) (go : A → Told B) (b : B) → then told go ≡ accepted b → Both told go b
 then-accepted (accepted a) go b e = record { first = a; taken = refl; on = e }
 then-accepted (refused k s) go b e = absurd (not-both e)
+
+-- what is accepted gives something
+pub accepted-gives : {A B : Type 0} (told : Told A) (f : A → B) (b : B) → accepted b ≡ then told (λ a. accepted (f a)) → (a : A) × (told ≡ accepted a)
+accepted-gives told f b e = let x = then-accepted told (λ a. accepted (f a)) b (sym e) in (x .first, x .taken)
+
+-- what is refused on the way to one thing is refused on the way to another
+pub refused-on : {A B C : Type 0} (told : Told A) (f : A → B) (g : A → Told C) (k : ℕ) (s : Spot) → refused k s ≡ then told (λ a. accepted (f a))
+    → refused k s ≡ then told g
+refused-on (accepted a) f g k s e = absurd (true≢false (cc))
+refused-on (refused j p) f g k s e = cc
 
 -- a call that goes on passes a refusal on whole: its number, its place and its second number
 pub then-passes : {A B : Type 0} (told : Told A) (go : A → Told B) (k : ℕ) (s : Spot) → told ≡ refused k s → then told go ≡ refused k s

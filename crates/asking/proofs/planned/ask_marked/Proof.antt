@@ -5,7 +5,8 @@ use native.Mathlib.Omega.{arith}
 use borrow.Author.Needs.{needs}
 use Rattle.words.specs.Meaning.{refusalOf, outcomeTold}
 use Rattle.asking.specs.Answers.{QuestionIs}
-use Rattle.asking.proofs.Plans.{marked-refused, read-ruled, mark-read, no-such-mark}
+use Rattle.plans.proofs.Read.{read-ruled}
+use Rattle.asking.proofs.Plans.{marked-refused, mark-read, no-such-mark}
 use Rattle.asking.proofs.planned.ask_marked.Statement.{statement}
 use Rattle.asking.proofs.planned.ask_marked.Tie as tie
 
