@@ -113,14 +113,14 @@ module _ (c : ℕ) (As : List Arc) where
 -- ---- of a plan within the rules
 
 module _ (p : Plan) (c : ℕ) (size : c ≡ count (p .ports)) (R : Ruled device p) where
-  abbrev found : List Arc
-  found = gapsBetween (count (p .ports)) (map (arcOf (count (p .ports))) (legsOf p))
-
   -- the gaps are those that are found
+  left-found : gapsIn p ≡ gapsBetween c (arcsOf c p)
+  left-found =
+      found-on (p .ports) (R .fits .fewPorts) (legsOf p) (R .fits .fewLegs) (fits-ruled (count (p .ports)) (legsOf p) (R .fits .each))
+      ∙ ap (λ k. gapsBetween k (arcsOf k p)) (sym size)
+
   pub gaps-are : numbers (gapsIn p) ≡ numbers (gapsBetween c (arcsOf c p))
-  gaps-are =
-      ap numbers (found-on (p .ports) (R .fits .fewPorts) (legsOf p) (R .fits .fewLegs) (fits-ruled (count (p .ports)) (legsOf p) (R .fits .each)))
-      ∙ ap (λ k. numbers (gapsBetween k (arcsOf k p))) (sym size)
+  gaps-are = ap numbers left-found
 
   whole : manyNamed (derangements (p .ports)) (legsOf p) + total (gapsBetween c (arcsOf c p)) ≡ c
   whole =
@@ -138,8 +138,9 @@ module _ (p : Plan) (c : ℕ) (size : c ≡ count (p .ports)) (R : Ruled device 
   pub tallies : (t : Tally) → (t .named + total (gapsBetween c (arcsOf c p)) ≡ c) × (t .gaps ≡ length (gapsBetween c (arcsOf c p))) → Tallies p t
   tallies t w = record {
     named = omega (arith, whole, w .0);
-    gaps = w .1
-        ∙ sym
-        (ap length (found-on (p .ports) (R .fits .fewPorts) (legsOf p) (R .fits .fewLegs) (fits-ruled (count (p .ports)) (legsOf p) (R .fits .each)))
-        ∙ ap (λ k. length (gapsBetween k (arcsOf k p))) (sym size));
+    gaps = w .1 ∙ sym (ap length left-found);
   }
+
+-- a plan within the rules leaves no more gaps than the most legs
+pub left-few : (p : Plan) → Ruled device p → length (gapsIn p) ≤ mostLegs
+left-few p R = omega (arith, ap length (left-found p (count (p .ports)) refl R), gaps-few p (count (p .ports)) refl R)

@@ -14,6 +14,9 @@ ghost use Rattle.plan_rules.specs.Rules.{planRuled};
 ghost use Rattle.line_format.specs.Calls.{over};
 ghost use Rattle.plan_arcs.specs.Arcs.{Tallies, gapsIn};
 
+// JIDROFEX_GAP_NUMBERS: enough numbers for the gaps of any plan. Round a circuit two for each leg are; there is room for one gap more.
+pub const GAP_NUMBERS: usize = 34;
+
 // How many different ranks a plan names, and how many gaps it leaves.
 pub struct Tally {
     pub named: u64,

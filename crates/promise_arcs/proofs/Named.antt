@@ -18,7 +18,7 @@ use Rattle.promise_arcs.specs.Finding.{arcOf, onSome, gapsBetween}
 use Rattle.promise_arcs.proofs.Only.{by-rank, by-neighbours, gaps-found-so, same-gaps}
 use Rattle.promise_arcs.proofs.Sums.{named-off, whole-circuit}
 use Rattle.promise_arcs.proofs.Finding.{gaps-found, few-gaps}
-use Rattle.promise_arcs.proofs.Legs.{Ruled, plan-arcs, arcs-fit}
+use Rattle.promise_arcs.proofs.Legs.{tells-named, Ruled, plan-arcs, arcs-fit}
 
 -- ---- any circuit
 
@@ -58,6 +58,7 @@ module _ (F : Family) (circuit : Circuit F) (legs : List Leg) (some : 1 ≤ leng
   plan-right =
       let L : Gaps c (named F legs) (gapsLeft F legs) = left-gaps in
       record {
+        names = tells-named F legs;
         once = refl;
         gaps = L;
         only = λ Bs K. sym (gaps-found-so c (named F legs) Bs K) ∙ gaps-found-so c (named F legs) (gapsLeft F legs) L;

@@ -1,9 +1,9 @@
 -- The ranks that a plan names and the gaps that it leaves (request 1), over the plan's list of ranks; and what is promised of them, sentence by sentence.
 -- Assumes nothing.
-use Prim.Native.Nat.{ℕ, zero, suc, _+_, _*_, _≤_, _<_}
+use Prim.Native.Nat.{ℕ, _+_, _≤_, _<_}
 use mathlib.Core.Path.{_≡_}
 use mathlib.Core.Bool.{Bool, true, false, _||_}
-use mathlib.Core.Logic.{_⊎_}
+use mathlib.Core.Logic.{_⊎_, _↔_}
 use mathlib.Core.List.{List, [], _∷_}
 use lib.Dec.{eqb}
 use lib.ListN.{length}
@@ -48,6 +48,8 @@ pub record OnOne (c : ℕ) (As : List Arc) (r : ℕ) : Type 0 where
 
 -- what a planner is told is right: so many ranks are named, these are the gaps
 pub record Right (F : Family) (legs : List Leg) (many : ℕ) (As : List Arc) : Type 0 where
+  -- a rank is named exactly if a leg names it at some step
+  pub names : (r : ℕ) → (named F legs r ≡ true) ↔ AtStep F legs r
   -- 'how many different ranks the plan names, each once'
   pub once : many ≡ howMany (named F legs) (F .size)
   -- 'the gaps, the longest arcs no leg names', 'in rising order of first rank'
