@@ -6,12 +6,13 @@ BEGIN {
     length_of["pattern"] = length_of["panel"] = "ports"
     length_of["text"] = length_of["buffer"] = "bytes"
     length_of["state"] = length_of["rehearsal"] = "words"
+    length_of["gaps"] = "numbers"
     # the field that has the numbers of a call; 15 stands before those of a text that is read into words
     fields = "check:check check_panel:checkPanel count:count rank:rank unrank:unrank next:beside previous:beside step:step port_at:portAt jack_of:jackOfPort" \
-        " carry:carry write_line:writeLine read_line:readLine begin:15+readPlan status:status request:asked report:reported report_mark:reportedMark" \
+        " carry:carry write_line:writeLine read_line:readLine begin:15+readPlan named:named status:status request:asked report:reported report_mark:reportedMark" \
         " resume:resume rehearse:15+rehearse orders:fill refusal_words:refusalWords refusal_sentence:refusalSentence version:never"
     # the constants that have the header's name, less its beginning
-    names = " VERSION MOST_PORTS MOST_LEGS ANSWER_WORDS LINE_WORDS NOTHING SWAP TURN MARK END TWO_SWAPS RAN ERROR GAVE_UP "
+    names = " VERSION MOST_PORTS MOST_LEGS ANSWER_WORDS LINE_WORDS GAP_NUMBERS NOTHING SWAP TURN MARK END TWO_SWAPS RAN ERROR GAVE_UP "
     sort_of["u8"] = "uint8_t"; sort_of["u64"] = "uint64_t"; sort_of["i64"] = "int64_t"; sort_of["usize"] = "size_t"
 }
 

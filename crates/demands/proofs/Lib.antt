@@ -1,7 +1,8 @@
--- The theorems: the three demands, demand three for the bytes, reports that are sent twice and the panel to restore, then what the paper says of refusals, of the end and of the longest line, that one answer
--- meets each contract, and that only reports raise covered.
+-- The theorems: the three demands, both jacks of a repeated port, what a plan names, demand three for the bytes, reports that are sent twice and the panel to
+-- restore, then what the paper says of refusals, of the end and of the longest line, that one answer meets each contract, and that only reports raise covered.
 pub mod Jacks
 pub mod One
+pub mod Named
 pub mod Two
 pub mod Three
 pub mod Bytes

@@ -1,7 +1,8 @@
 -- Which numbers a call can be refused with, by how its definition is built: what has to be there, sizes.
 -- Assumes nothing.
 use mathlib.Core.Path.{_≡_, refl, ap, subst}
-use mathlib.Core.List.{List}
+use mathlib.Core.Logic.{inl, inr}
+use mathlib.Core.List.{List, [], _∷_, _++_}
 use mathlib.Core.Option.{Option}
 use Prim.Native.Nat.{ℕ}
 use Rattle.listing.proofs.Numbers.{of-test}
@@ -28,6 +29,15 @@ module _ (ns : List ℕ) where
   -- a refusal of the campaign's
   pub answer-refusal : (i : ℕ) → OneOf ns i → RefusesAs ns (refusal i)
   answer-refusal i h k e = subst (OneOf ns) (cc) h
+
+-- with more numbers after them
+one-of-more : (ns ms : List ℕ) (k : ℕ) → OneOf ns k → OneOf (ns ++ ms) k
+one-of-more [] ms k h = absurd h
+one-of-more (n ∷ ns) ms k (inl e) = inl e
+one-of-more (n ∷ ns) ms k (inr h) = inr (one-of-more ns ms k h)
+
+pub with-more : {A : Type 0} (ns ms : List ℕ) (t : Told A) → Refuses ns t → Refuses (ns ++ ms) t
+with-more ns ms t h k s e = (one-of-more ns ms k (h k s e .0), h k s e .1)
 
 -- bytes that are left only if the call is accepted
 pub kept : {A : Type 0} (t : Told A) (made found : List ℕ) → Keeps t (leaves t made found) found

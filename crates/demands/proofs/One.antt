@@ -13,7 +13,7 @@ use Rattle.listing.specs.Orders.{Order}
 use Rattle.listing.specs.Limits.{mostPorts, largest64}
 use Rattle.listing.specs.Count.{count}
 use Rattle.listing.proofs.Numbers.{either, of-test}
-use Rattle.words.specs.Told.{Told, Spot, nowhere, atJack, atJacks, accepted, refused, earlierNumber, EachRefusal}
+use Rattle.words.specs.Told.{Told, Spot, nowhere, atJack, atJacks, accepted, refused, earlierNumber, EachRefusal, then, leaves}
 use Rattle.words.proofs.Told.{each-accepted, each-refused, each-then}
 use Rattle.words.specs.declared.Line.{Line}
 use Rattle.pattern_check.specs.Faults.{Fault, sound, outside, repeated, ownJack, faultOf, faultTold}
@@ -45,11 +45,14 @@ use Rattle.printing.specs.Rehearsals.{stateOf}
 use Rattle.printing.specs.declared.Rehearsal.{Rehearsal}
 use Rattle.campaign_onward.specs.Calls.{whereOf, statusOf, panelIn, fitTold, resumeOf, resumedOf, goesOn}
 use Rattle.printing.proofs.Refused.{refused-first, rehearsal-stays, bytes-stay as line-bytes-stay}
-use Rattle.plan_rules.specs.Planned.{device}
+use Rattle.plan_rules.specs.Planned.{Planned, device}
+use Rattle.plans.specs.Calls.{readPlanOf}
+use Rattle.promise_arcs.specs.Named.{numbers}
+use Rattle.plan_named.specs.Calls.{gapsOf, namesOf, fitted, fittedNumbers, namedOf, numbersAfter, namedNumbers}
 use Rattle.demands.specs.One.{OneOf, Listed, Refuses, Keeps, RefusesAs, DemandOne}
 use Rattle.demands.proofs.PlanNumbers.{plan-numbers}
 use Rattle.demands.proofs.Jacks.{panel-second}
-use Rattle.demands.proofs.Numbers.{from-refused, from-need, from-sized, answer-refusal, kept}
+use Rattle.demands.proofs.Numbers.{from-refused, from-need, from-sized, with-more, answer-refusal, kept}
 
 -- ---- patterns
 
@@ -132,6 +135,34 @@ unfolding writeOf
 write-numbers l buf =
     each-then (Listed (17 ∷ 2 ∷ [])) _ _ (fitting-numbers (17 ∷ 2 ∷ []) l (inl refl)) (λ k. room-numbers (17 ∷ 2 ∷ []) (inr (inl refl)) (lineText k) buf)
 
+-- ---- what a plan names
+
+-- the plan's numbers
+abbrev ofPlan : List ℕ
+ofPlan = 11 ∷ 7 ∷ 8 ∷ 1 ∷ 9 ∷ 6 ∷ 10 ∷ []
+
+abbrev ofNamed : List ℕ
+ofNamed = 11 ∷ 7 ∷ 8 ∷ 1 ∷ 9 ∷ 6 ∷ 10 ∷ 2 ∷ []
+
+named-numbers : (t old : List ℕ) → Refuses ofNamed (namedOf t old)
+unfolding namedOf fitted
+named-numbers t old =
+    each-then (Listed ofNamed) (readPlanOf t) _ (with-more ofPlan (2 ∷ []) (readPlanOf t) (plan-numbers device 1 t))
+    (λ p. each-then (Listed ofNamed) _ _ (room-numbers ofNamed (inr (inr (inr (inr (inr (inr (inr (inl refl)))))))) (numbers (gapsOf p)) old) (λ n. each-accepted (Listed ofNamed) _))
+
+-- what is left where there is no room, and of a plan that is refused
+room-kept : {A : Type 0} (a : A) (room : Told ℕ) (made old : List ℕ) → Keeps (then room (λ n. accepted a)) (leaves room made old) old
+room-kept a (accepted n) made old k s e = absurd (true≢false (cc))
+room-kept a (refused i r) made old k s e = refl
+
+named-kept : (t old : List ℕ) → Keeps (namedOf t old) (namedNumbers t old) old
+unfolding namedOf namedNumbers fitted fittedNumbers roomBytes
+named-kept t old = by (readPlanOf t)
+  where
+    by : (told : Told Planned) → Keeps (then told (λ p. fitted p old)) (numbersAfter told old) old
+    by (accepted p) = room-kept (namesOf p) (roomOf (numbers (gapsOf p)) old) _ old
+    by (refused i r) = λ k s e. refl
+
 -- ---- a refusal's words, and a refusal as a sentence
 
 refusal-words-numbers : (number : ℕ) (buf : List ℕ) → Refuses (2 ∷ []) (refusalWordsOf number buf)
@@ -197,10 +228,6 @@ report-numbers o kind s =
 status-numbers : (s : State) → Refuses (15 ∷ []) (statusOf s)
 unfolding statusOf
 status-numbers s = of-test (Refuses (15 ∷ [])) (fit s) _ _ (each-accepted (Listed (15 ∷ [])) (whereOf s)) (from-refused (15 ∷ []) 15 nowhere refl (inl refl))
-
--- the plan's numbers
-abbrev ofPlan : List ℕ
-ofPlan = 11 ∷ 7 ∷ 8 ∷ 1 ∷ 9 ∷ 6 ∷ 10 ∷ []
 
 -- a rehearsal has no mark standing, so its requests are not refused with 13
 abbrev ofFill : List ℕ
@@ -275,6 +302,8 @@ demand-one = record {
   readLine = read-numbers;
   writeLine = write-numbers;
   writeKeeps = λ l buf. kept (writeOf mostPorts l buf) _ buf;
+  named = named-numbers;
+  namedKeeps = named-kept;
   refusalWords = refusal-words-numbers;
   refusalWordsKeeps = refusal-words-kept;
   refusalSentence = refusal-sentence-numbers;

@@ -25,6 +25,8 @@ use Rattle.line_sentence.proofs.Only.{only-refusal-sentence}
 use Rattle.line_sentence.proofs.Contracts.{refusal-sentence-says}
 use Rattle.plans.proofs.Only.{only-read-plan}
 use Rattle.plans.proofs.Contracts.{read-plan-says}
+use Rattle.plan_named.proofs.Only.{only-named}
+use Rattle.plan_named.proofs.Contracts.{named-says}
 use Rattle.campaign.proofs.Only.{only-request, only-request-bytes, only-report, only-begin}
 use Rattle.campaign.proofs.Contracts.{begin-says, request-says, report-says, report-mark-says}
 use Rattle.campaign_onward.proofs.Only.{only-status, only-resume}
@@ -36,6 +38,7 @@ use Rattle.face_words.proofs.Contracts as face-words
 use Rattle.face_patterns.proofs.Contracts as face-patterns
 use Rattle.face_panel.proofs.Contracts as face-panel
 use Rattle.face_lines.proofs.Contracts as face-lines
+use Rattle.face_plans.proofs.Contracts as face-plans
 use Rattle.face_campaign.proofs.Contracts as face-campaign
 use Rattle.demands.specs.Only.{EachCallOne}
 
@@ -74,6 +77,7 @@ each-call-one = record {
       (λ κs (number, (place, (earlier, (buf, _)))) r s e f h k.
       both (only-refusal-sentence number place earlier (now buf) r s _ _ (h .0) (h .1) (k .0) (k .1)));
   readPlan = one-by read-plan-says (λ κs a r s e f. only-read-plan _ r s);
+  named = one-by named-says (λ κs (text, (gaps, _)) r s e f h k. both (only-named (now text) (now gaps) r s _ _ (h .0) (h .1) (k .0) (k .1)));
   begin = one-by begin-says (λ κs a r s e f. only-begin _ r s);
   request = one-by request-says (λ κs a r s e f h k. both (only-request _ _ _ r s (h .0) (k .0), only-request-bytes _ _ _ _ (h .1) (k .1)));
   report = one-by report-says (λ κs a r s e f. only-report _ _ _ r s);
@@ -99,6 +103,7 @@ each-call-one = record {
   faceCarry = one-by face-panel.carry-says (λ κs (panel, (line, _)) r s e f. face.only-carry (now line) (now panel) _ _);
   faceWriteLine = one-by face-lines.write-line-says (λ κs (line, (buf, _)) r s e f. face.only-write-line (now line) (now buf) _ _);
   faceReadLine = one-by face-lines.read-line-says (λ κs a r s e f. face.only-read-line _ _ _ _);
+  faceNamed = one-by face-plans.named-says (λ κs (text, (gaps, _)) r s e f. face.only-named (now text) (now gaps) _ _);
   faceBegin = one-by face-campaign.begin-says (λ κs a r s e f. face.only-begin _ _ _ _);
   faceRequest = one-by face-campaign.request-says (λ κs (state, (buf, _)) r s e f. face.only-request (now state) (now buf) _ _);
   faceReport = one-by face-campaign.report-says (λ κs a r s e f. face.only-report _ _ _ _);

@@ -19,6 +19,7 @@ use Rattle.line_format.specs.Reading.{readOf}
 use Rattle.line_refusal.specs.Words.{refusalWordsOf, refusalWordsBytes}
 use Rattle.line_sentence.specs.Sentences.{refusalSentenceOf, refusalSentenceBytes}
 use Rattle.plans.specs.Calls.{readPlanOf}
+use Rattle.plan_named.specs.Calls.{namedOf, namedNumbers}
 use Rattle.promise.specs.Campaign.{Answer, refusal, Call, request, report, reportOn}
 use Rattle.campaign_state.specs.declared.State.{State}
 use Rattle.campaign.specs.Calls.{answerOf, leftOf, bytesOf}
@@ -71,6 +72,9 @@ pub record DemandOne : Type 0 where
   pub readLine : (t : List ℕ) (place : ℕ) → Refuses (11 ∷ 7 ∷ 8 ∷ 17 ∷ []) (readOf largest64 mostPorts t place)
   pub writeLine : (l : Line) (buf : List ℕ) → Refuses (17 ∷ 2 ∷ []) (writeOf mostPorts l buf)
   pub writeKeeps : (l : Line) (buf : List ℕ) → Keeps (writeOf mostPorts l buf) (writeBytes mostPorts l buf) buf
+  -- ---- what a plan names: 'after all plan refusals' 2
+  pub named : (t old : List ℕ) → Refuses (11 ∷ 7 ∷ 8 ∷ 1 ∷ 9 ∷ 6 ∷ 10 ∷ 2 ∷ []) (namedOf t old)
+  pub namedKeeps : (t old : List ℕ) → Keeps (namedOf t old) (namedNumbers t old) old
   -- ---- a refusal's words, and a refusal as a sentence
   pub refusalWords : (number : ℕ) (buf : List ℕ) → Refuses (2 ∷ []) (refusalWordsOf number buf)
   pub refusalWordsKeeps : (number : ℕ) (buf : List ℕ) → Keeps (refusalWordsOf number buf) (refusalWordsBytes number buf) buf

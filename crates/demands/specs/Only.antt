@@ -28,6 +28,7 @@ use Rattle.line_reader.proofs.order_lines.read_line.Reads as read-line
 use Rattle.line_refusal.proofs.wording.refusal_words.Reads as refusal-words
 use Rattle.line_sentence.proofs.refusal_sentence.Reads as refusal-sentence
 use Rattle.plans.proofs.reading.read_plan.Reads as read-plan
+use Rattle.plan_named.proofs.named.Reads as named
 use Rattle.campaign.proofs.Campaign.begin.Reads as begin
 use Rattle.campaign.proofs.Campaign.request.Reads as request
 use Rattle.campaign.proofs.Campaign.report.Reads as report
@@ -52,6 +53,7 @@ use Rattle.face_panel.proofs.jidrofex_jack_of.Reads as face-jack-of
 use Rattle.face_panel.proofs.jidrofex_carry.Reads as face-carry
 use Rattle.face_lines.proofs.jidrofex_write_line.Reads as face-write-line
 use Rattle.face_lines.proofs.jidrofex_read_line.Reads as face-read-line
+use Rattle.face_plans.proofs.jidrofex_named.Reads as face-named
 use Rattle.face_campaign.proofs.jidrofex_begin.Reads as face-begin
 use Rattle.face_campaign.proofs.jidrofex_request.Reads as face-request
 use Rattle.face_campaign.proofs.jidrofex_report.Reads as face-report
@@ -100,6 +102,7 @@ pub record EachCallOne : Type 0 where
   pub refusalSentence : OneWith refusal-sentence.Learnt (λ κs (_, (_, (_, (buf, _)))). now buf)
   -- ---- plans
   pub readPlan : OneAnswer read-plan.Learnt
+  pub named : OneWith named.Learnt (λ κs (_, (gaps, _)). now gaps)
   -- ---- the campaign
   pub begin : OneAnswer begin.Learnt
   pub request : OneWith request.Learnt (λ κs (_, (buf, _)). now buf)
@@ -115,7 +118,7 @@ pub record EachCallOne : Type 0 where
   pub faceVersion : One face-version.Learnt (λ κs r (answer, _). result r (now answer) [])
   pub faceRefusalWords : One face-refusal-words.Learnt (λ κs r (_, (buf, (answer, _))). result r (now answer) (now buf ∷ []))
   pub faceRefusalSentence : One face-refusal-sentence.Learnt (λ κs r (_, (_, (buf, (answer, _)))). result r (now answer) (now buf ∷ []))
-  -- ---- patterns, the panel, order lines, the campaign and lines in bulk
+  -- ---- patterns, the panel, order lines, plans, the campaign and lines in bulk
   pub faceCheck : One face-check.Learnt (λ κs r (_, (answer, _)). result r (now answer) [])
   pub faceCheckPanel : One face-check-panel.Learnt (λ κs r (_, (answer, _)). result r (now answer) [])
   pub faceCount : One face-count.Learnt (λ κs r (_, (answer, _)). result r (now answer) [])
@@ -129,6 +132,7 @@ pub record EachCallOne : Type 0 where
   pub faceCarry : One face-carry.Learnt (λ κs r (panel, (_, (answer, _))). result r (now answer) (now panel ∷ []))
   pub faceWriteLine : One face-write-line.Learnt (λ κs r (_, (buf, (answer, _))). result r (now answer) (now buf ∷ []))
   pub faceReadLine : One face-read-line.Learnt (λ κs r (_, (_, (answer, _))). result r (now answer) [])
+  pub faceNamed : One face-named.Learnt (λ κs r (_, (gaps, (answer, _))). result r (now answer) (now gaps ∷ []))
   pub faceBegin : One face-begin.Learnt (λ κs r (_, (state, (answer, _))). result r (now answer) (now state ∷ []))
   pub faceRequest : One face-request.Learnt (λ κs r (state, (buf, (answer, _))). result r (now answer) (now state ∷ now buf ∷ []))
   pub faceReport : One face-report.Learnt (λ κs r (state, (_, (answer, _))). result r (now answer) (now state ∷ []))

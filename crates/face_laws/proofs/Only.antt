@@ -16,10 +16,11 @@ use Rattle.line_format.specs.Calls.{writeOf, writeBytes}
 use Rattle.line_format.specs.Reading.{readOf}
 use Rattle.line_refusal.specs.Words.{refusalWordsOf, refusalWordsBytes}
 use Rattle.line_sentence.specs.Sentences.{refusalSentenceOf, refusalSentenceBytes}
+use Rattle.plan_named.specs.Calls.{namedOf, namedNumbers}
 use Rattle.face_values.specs.Answers.{versionTold, nothing, oneNumber}
 use Rattle.face_values.specs.Lines.{moveWords, lineIn}
 use Rattle.face_values.specs.Only.{Only}
-use Rattle.face_laws.specs.Values.{lineAndPlace, orderAndBytes, bytesAndEnd, whereWords}
+use Rattle.face_laws.specs.Values.{lineAndPlace, namesWords, orderAndBytes, bytesAndEnd, whereWords}
 use Rattle.face_laws.specs.Calls.{calledTold, calledWords, requestBytes, statusIn, ordersTold, ordersWords, ordersBytes, beginTold, beginWords, resumeTold, resumeWords, rehearseTold, rehearseWords}
 
 -- one result meets the clauses of a contract
@@ -82,6 +83,11 @@ only-write-line line buf = only _ _ _
 
 pub only-read-line : (t : List ℕ) (place : ℕ) → Only lineAndPlace (readOf largest64 mostPorts t place) []
 only-read-line t place = only _ _ _
+
+-- ---- a plan, before its campaign starts
+
+pub only-named : (t old : List ℕ) → Only namesWords (namedOf t old) (namedNumbers t old ∷ [])
+only-named t old = only _ _ _
 
 -- ---- a campaign
 

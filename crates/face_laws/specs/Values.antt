@@ -10,6 +10,7 @@ use Rattle.promise.specs.Campaign as model
 use Rattle.line_format.specs.Format.{lineText}
 use Rattle.campaign_state.specs.State.{answerLine}
 use Rattle.face_values.specs.Lines.{lineWords}
+use Rattle.plan_named.specs.Calls.{Names}
 use Rattle.campaign_onward.specs.declared.Whereabouts.{Whereabouts}
 use Rattle.face_state.specs.States.{bit}
 
@@ -37,6 +38,10 @@ orderThen n a = lineThen n (answerLine a)
 -- 'Gives how many bytes they take, and 1 if the end is among them'
 abbrev pub bytesAndEnd : ℕ × Bool → List ℕ
 bytesAndEnd x = x .0 ∷ bit (x .1) ∷ []
+
+-- 'Gives how many ranks are named, and how many gaps there are'
+abbrev pub namesWords : Names → List ℕ
+namesWords n = n .ranks ∷ n .gaps ∷ []
 
 -- 'Gives the plan's marks; the number and the rank of the mark that stands, or else of the next, or after the end of the last; 1 if that mark stands; 1 if the
 -- end is shown'
