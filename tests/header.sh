@@ -23,7 +23,7 @@ header_said() { awk -f tests/header/read.awk "$1" | header_lines "$2"; }
 header_same() { header_said "$1" "$2" | cmp -s - "$header_out/$2"; }
 
 header_code() {
-    awk -f tests/header/code.awk crates/words/src/limits.rt crates/words/src/refusals.rt crates/campaign/src/lib.rt crates/face_*/src/*.rt \
+    awk -f tests/header/code.awk crates/words/src/limits.rt crates/words/src/refusals.rt crates/campaign/src/lib.rt crates/plan_arcs/src/gaps.rt crates/face_*/src/*.rt \
         crates/demands/specs/One.antt >"$header_out/code"
     for header_subject in declarations numbers; do header_lines "$header_subject" <"$header_out/code" >"$header_out/$header_subject"; done
 }

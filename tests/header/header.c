@@ -10,6 +10,7 @@
 #include "patterns.h"
 #include "lines.h"
 #include "campaigns.h"
+#include "named.h"
 
 int main(void)
 {
@@ -28,6 +29,7 @@ int main(void)
     carries();
     lines_written();
     lines_read();
+    named_ranks();
     plans(begin);
     example_campaign();
     two_swaps();
