@@ -2,6 +2,7 @@
 //! deepest stack of each call. Each time is the median of several runs with the least and the most; nothing is asserted of any.
 
 mod campaign;
+mod named;
 mod stack;
 
 use face::Answer;
@@ -273,6 +274,7 @@ fn main() {
     println!("Machine: {}. Medians of {} runs, least and most in brackets.", machine(), effort().runs);
     calls_table();
     circuits_table();
+    named::named_table();
     campaign::campaign_table();
     printer_table();
     stack::stack_table();

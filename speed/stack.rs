@@ -1,6 +1,7 @@
 //! The deepest stack of each call.
 
 use super::campaign::standing_mark;
+use super::named::apart;
 use super::{begun, patterns, rehearsed};
 use face::Answer;
 use reference::campaign::{PANEL, STANDING};
@@ -125,6 +126,8 @@ pub fn stack_table() {
     show("carry", deepest(nothing, |l| accepted(face::carry(&mut l.pattern, &[2, 1, 20, 3], &mut l.answer))));
     show("write_line", deepest(nothing, |l| accepted(face::write_line(&[3, u64::MAX, u64::MAX, 0], &mut l.buffer, &mut l.answer))));
     show("read_line", deepest(nothing, |l| accepted(face::read_line(LONGEST, 0, &mut l.answer))));
+    let most_gaps = &apart(16);
+    show("named", deepest(nothing, |l| accepted(face::named(most_gaps, &mut l.state, &mut l.answer))));
     show("begin", deepest(nothing, |l| accepted(face::begin(plan, &mut l.state, &mut l.answer))));
     show("status", deepest(for_status, |l| accepted(face::status(&l.state, &mut l.answer))));
     show("request", deepest(for_request, |l| accepted(face::request(&mut l.state, &mut l.buffer, &mut l.answer))));

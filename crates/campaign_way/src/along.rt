@@ -6,6 +6,8 @@ ghost use Rattle.listing.specs.Limits.{mostPorts};
 ghost use Rattle.promise.specs.Plan.{stepped};
 ghost use Rattle.promise.specs.Derangements.{derangements};
 use pattern_steps::counts::count_of;
+use plan_arcs::circle::backward;
+use plan_arcs::circle::onward;
 
 // The rank k steps on from a rank, or k steps back, round the circuit.
 pub fn rank_along(n: u8, start: u64, back: bool, k: u64) -> u64
@@ -14,13 +16,7 @@ pub fn rank_along(n: u8, start: u64, back: bool, k: u64) -> u64
 {
     let total = count_of(n);
     if back {
-        if k <= start {
-            return start - k;
-        }
-        return total - (k - start);
+        return backward(total, start, k);
     }
-    if k < total - start {
-        return start + k;
-    }
-    k - (total - start)
+    onward(total, start, k)
 }
