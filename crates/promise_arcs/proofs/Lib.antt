@@ -6,4 +6,4 @@ pub mod Finding
 pub mod Legs
 pub mod Named
 pub mod Loops
-pub mod Cases
+pub mod Worked
