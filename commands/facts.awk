@@ -1,6 +1,6 @@
-# What the four drawers share: the facts, lines of key=value on standard input, read into variables; the move carried out on the panel; its words.
-# Ranks, counts and mark numbers are kept as text: they go beyond the whole numbers that awk holds.
-# The environment has what a drawing is called, `title`, as it is.
+# What the drawers share: the facts, lines of key=value on standard input, read into variables; the move carried out on the panel; the gaps; their words.
+# Ranks, counts and mark numbers are kept as text, and added and compared digit by digit: they go beyond the whole numbers that awk holds.
+# `name` is the command's. The environment has what a drawing is called, `title`, as it is.
 BEGIN {
     FS = "[=,]"
     title = ENVIRON["title"]
@@ -14,6 +14,10 @@ $1 == "legs" && NF == 2 { legs = $2 + 0; next }
 $1 == "start" && NF == 2 { starts++; next }
 $1 == "run" && NF == 2 { run[++runs] = $2 ""; next }
 $1 == "end" && NF == 2 { ended = $2 ""; next }
+$1 == "named" && NF == 2 { named = $2 ""; next }
+$1 == "of" && NF == 2 { of = $2 ""; next }
+$1 == "gaps" && NF == 2 { gaps = $2 ""; next }
+$1 == "gap" && NF == 3 { gap_first[++gap_lines] = $2 ""; gap_many[gap_lines] = $3 ""; next }
 stray == "" { stray = $0 "" }
 
 # what is wrong with facts of any kind, or nothing
@@ -38,13 +42,26 @@ function panel_fault(    j, met) {
 function plan_fault() {
     if (fault() != "") return fault()
     if (legs < 1 || starts != legs || runs != legs || marks != 2 * legs || ended == "") return "the facts are not complete"
-    return ""
+    return named_fault()
+}
+
+# what is wrong with the facts of what a plan names: the gaps rise, none is empty, a named rank comes after each, and with the named ranks they are all there are
+function named_fault(    k, sum, next_first) {
+    if (named !~ /^[1-9]/ || of != count || gaps != (gap_lines + 0) "" || gap_lines > legs) return "the facts are not complete"
+    sum = named
+    for (k = 1; k <= gap_lines; k++) {
+        next_first = k < gap_lines ? gap_first[k + 1] : plus(gap_first[1], count)
+        if (gap_many[k] !~ /^[1-9]/ || !below(gap_first[k], count)) return "gap " k " is none"
+        if (!below(plus(gap_first[k], gap_many[k]), next_first)) return "gap " k " runs into the next one"
+        sum = plus(sum, gap_many[k])
+    }
+    return sum == count ? "" : "the named ranks and the gaps are not the whole circuit"
 }
 
 # a drawer draws nothing from facts with a fault
 function need(why) {
     if (why == "") return
-    print "show: " why > "/dev/stderr"
+    print name ": " why > "/dev/stderr"
     exit 1
 }
 
@@ -118,21 +135,68 @@ function filled(piece, n, width, line,    i, k) {
 # whether the one decimal is below the other
 function below(a, b) { return length(a) != length(b) ? length(a) < length(b) : (a "") < (b "") }
 
-# the decimal before a positive one
-function before(a,    i, tail) {
-    for (i = length(a); substr(a, i, 1) == "0"; i--) tail = tail "9"
-    a = substr(a, 1, i - 1) (substr(a, i, 1) - 1) tail
-    return length(a) > 1 && substr(a, 1, 1) == "0" ? substr(a, 2) : a
+# a decimal with zeros before it, so many digits long; and without them
+function padded(a, wide) { while (length(a) < wide) a = "0" a; return a }
+function plain(a) { sub(/^0+/, "", a); return a == "" ? "0" : a }
+
+# two decimals added
+function plus(a, b,    wide, i, digit, over, sum) {
+    wide = length(a) > length(b) ? length(a) : length(b)
+    a = padded(a, wide)
+    b = padded(b, wide)
+    for (i = wide; i > 0; i--) {
+        digit = substr(a, i, 1) + substr(b, i, 1) + over
+        sum = (digit % 10) sum
+        over = int(digit / 10)
+    }
+    return plain(over sum)
+}
+
+# a decimal less another that is not above it
+function minus(a, b,    i, digit, owed, rest) {
+    b = padded(b, length(a))
+    for (i = length(a); i > 0; i--) {
+        digit = substr(a, i, 1) - substr(b, i, 1) - owed
+        owed = digit < 0
+        rest = (digit + 10 * owed) rest
+    }
+    return plain(rest)
+}
+
+# k of so many equal parts of a decimal, rounded down: k times as much digit by digit from the right, then divided from the left
+function share(text, k, parts,    i, left, more, part) {
+    for (i = length(text); i > 0; i--) {
+        left = substr(text, i, 1) * k + left
+        more = (left % 10) more
+        left = int(left / 10)
+    }
+    more = left more
+    left = 0
+    for (i = 1; i <= length(more); i++) {
+        left = left * 10 + substr(more, i, 1)
+        part = part int(left / parts)
+        left = left % parts
+    }
+    return plain(part)
 }
 
 # a leg: how many steps it takes, whether it runs backward, whether it meets every pattern, whether it passes from one end of the list to the other
 function steps(leg) { return backward(leg) ? substr(run[leg], 2) : run[leg] }
 function backward(leg) { return substr(run[leg], 1, 1) == "-" }
-function circuit(leg) { return steps(leg) == before(count) }
+function circuit(leg) { return steps(leg) == minus(count, "1") }
 function passes_end(leg) { return backward(leg) ? below(rank[2 * leg - 1], rank[2 * leg]) : below(rank[2 * leg], rank[2 * leg - 1]) }
 
-# the plan in a line
+# a gap: its last rank, and whether it passes from the end of the list to rank 0
+function gap_last(k,    last) {
+    last = minus(plus(gap_first[k], gap_many[k]), "1")
+    return below(last, count) ? last : minus(last, count)
+}
+function gap_passes(k) { return below(gap_last(k), gap_first[k]) }
+
+# the plan in a line; what it names, beside a name and by itself
 function plan_words() { return ports " ports, " many(count, "pattern") ", " many(legs, "leg") ", " many(ended, "mark") }
+function named_words() { return named " of " many(count, "pattern") ", " (gaps == "0" ? "no gap" : minus(count, named) " in " many(gaps, "gap")) }
+function covering() { return gaps == "0" ? "every pattern is named" : "named " named_words() }
 
 # twenty colours, dark enough for print
 function palette(colour,    paler, k) {

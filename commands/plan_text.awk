@@ -1,4 +1,4 @@
-# A plan in words: what it is a plan of, then a line for each leg, its numbers in columns.
+# A plan in words: what it is a plan of, then a line for each leg, its numbers in columns; what the legs name, and in the same way a line for each gap.
 END {
     need(plan_fault())
     print plan_words()
@@ -7,6 +7,14 @@ END {
         rank_wide[m % 2] = wider(rank_wide[m % 2], rank[m])
     }
     for (leg = 1; leg <= legs; leg++) print leg_line(leg)
+    print covering()
+    for (k = 1; k <= gap_lines; k++) {
+        first_wide = wider(first_wide, gap_first[k])
+        last_wide = wider(last_wide, gap_last(k))
+        many_wide = wider(many_wide, gap_many[k])
+        long_gaps += gap_many[k] != "1"
+    }
+    for (k = 1; k <= gap_lines; k++) print gap_line(k)
 }
 
 function wider(wide, text) { return length(text) > wide ? length(text) : wide + 0 }
@@ -19,6 +27,15 @@ function leg_line(leg,    m) {
     m = 2 * leg
     return "leg " right(leg, length(legs "")) ": marks " right(number[m - 1], number_wide[1]) " to " right(number[m], number_wide[0]) \
         ", ranks " right(rank[m - 1], rank_wide[1]) " to " right(rank[m], rank_wide[0]) ", " way(leg)
+}
+
+# a gap of one rank has no last one, and leaves that column empty where others have it
+function gap_line(k,    ranks) {
+    if (gap_many[k] != "1") ranks = "ranks " right(gap_first[k], first_wide) " to " right(gap_last(k), last_wide) ","
+    else ranks = (long_gaps ? "rank  " : "rank ") right(gap_first[k], first_wide) ","
+    if (long_gaps) ranks = sprintf("%-" (11 + first_wide + last_wide) "s", ranks)
+    return "gap " right(k, length(gaps)) ": " ranks " " right(gap_many[k], many_wide) (gap_many[k] == "1" ? " pattern" : " patterns") \
+        (gap_passes(k) ? ", passing the end of the list" : "")
 }
 
 # how a leg runs
