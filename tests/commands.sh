@@ -2,8 +2,8 @@
 # of a long print. What the printer prints is in printer.sh, what is drawn in drawings.sh, how programs are built in building.sh.
 commands_out=$(mktemp -d)
 T=$commands_out
-# both programs up to date, so that no row tells of a build
-for command in orders show; do bin/$command --quiet plans/two-ports >/dev/null || fail "commands: bin/$command does not run"; done
+# all programs up to date, so that no row tells of a build
+for command in orders show named; do bin/$command --quiet plans/two-ports >/dev/null || fail "commands: bin/$command does not run"; done
 
 # the files of the table
 commands_file() { printf "$2" >"$T/$1"; }
@@ -26,6 +26,12 @@ commands_file minus 'ports=4\nlegs=1\nstart=0\nrun=-0\n'
 commands_file no-newline 'ports=4\nlegs=1\nstart=0\nrun=0'
 commands_file missing 'ports=4\nlegs=2\nstart=0\nrun=0\n'
 commands_file circuit-20 'ports=20\nlegs=1\nstart=0\nrun=895014631192902120\n'
+# what a cell of the strip is: of 895014631192902121 ranks in 48 cells each has 18646138149852127, and 25 are left over, so that the second cell has one more
+commands_file all-but-0 'ports=20\nlegs=1\nstart=1\nrun=895014631192902119\n'
+commands_file last-alone 'ports=20\nlegs=1\nstart=895014631192902120\nrun=0\n'
+commands_file second-cell 'ports=20\nlegs=1\nstart=18646138149852127\nrun=18646138149852127\n'
+commands_file second-but-1 'ports=20\nlegs=1\nstart=37292276299704253\nrun=-18646138149852126\n'
+{ printf 'ports=20\nlegs=16\n' && for leg in 0 1 2 3 4 5 6 7 8 9 10 11 12 13 14 15; do printf 'start=%s\nrun=895014631192902120\n' "$leg"; done; } >"$T/sixteen-times"
 { printf 'ports=' && head -c 2000 /dev/zero | tr '\0' 1 && echo; } >"$T/long-line"
 cp plans/example "$T/-plan"
 cp plans/example "$T/a plan"
@@ -66,7 +72,7 @@ while IFS= read -r row; do
 done <tests/commands/table
 
 # every status that the commands' file names is met by a row for each command, but the one for what cannot be built (building.sh)
-for command in orders show; do
+for command in orders show named; do
     for status in 0 64 65 66 74 141; do
         grep -qE "^$status \|.*bin/$command" tests/commands/table || fail "commands: no row of $command ends with $status"
     done
@@ -126,14 +132,16 @@ else
     fail 'commands: on a terminal the progress is not told, or stands among the orders'
 fi
 # what is printed is the same byte for byte with words, with --quiet and with neither
-bin/orders --words plans/overlap-6 2>/dev/null >"$T/with"
-bin/orders --quiet plans/overlap-6 >"$T/quiet"
-bin/orders plans/overlap-6 >"$T/out"
-if cmp "$T/with" "$T/out" && cmp "$T/quiet" "$T/out"; then
-    pass 'commands: words change no byte of what is printed'
-else
-    fail 'commands: words change what is printed'
-fi
+for command in orders named; do
+    bin/$command --words plans/overlap-6 2>/dev/null >"$T/with"
+    bin/$command --quiet plans/overlap-6 >"$T/quiet"
+    bin/$command plans/overlap-6 >"$T/out"
+    if cmp "$T/with" "$T/out" && cmp "$T/quiet" "$T/out"; then
+        pass "commands: words change no byte of what $command prints"
+    else
+        fail "commands: words change what $command prints"
+    fi
+done
 # a signal to the command alone ends the program too
 env --default-signal=INT,TERM bin/orders --quiet "$T/circuit-20" >/dev/null &
 one=$!
@@ -157,5 +165,7 @@ mkdir "$T/room"
 TMPDIR=$T/room bin/orders plans/example >/dev/null
 TMPDIR=$T/room reader_gone bin/orders plans/full-circuit-10
 TMPDIR=$T/room bin/orders --bad 2>/dev/null
+TMPDIR=$T/room bin/named --words plans/example >/dev/null 2>&1
+TMPDIR=$T/room no_reader bin/named plans/example
 if [ -z "$(ls "$T/room")" ]; then pass 'commands: no temporary file is left'; else fail 'commands: temporary files are left'; fi
 rm -rf "$commands_out"

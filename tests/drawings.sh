@@ -1,5 +1,7 @@
-# What bin/show draws, read back from the drawing: each jack, port and cord of a panel, in text and as a picture, and each leg of a plan on its circuit. The patterns to
-# compare with come from the orders of bin/orders, carried out here on a panel that starts at home; the readers of tests/drawing know nothing of the drawers.
+# What bin/show draws, read back from the drawing: each jack, port and cord of a panel, in text and as a picture, and each leg and each gap of a plan on its circuit;
+# and the strip of bin/named, cell by cell. The patterns to compare with come from the orders of bin/orders, carried out here on a panel that starts at home, the gaps
+# from the legs of the plans; the readers of tests/drawing know nothing of the drawers.
+. "$root/tests/drawing/gaps.sh"
 drawings_out=$(mktemp -d)
 
 # met PLAN: number, rank and pattern of each mark of a plan, as its orders meet them
@@ -94,16 +96,81 @@ for plan in plans/*; do
     fi
 done
 
-# ---- the readers see what is wrong: a cord that ends elsewhere, two ports exchanged, a cord that is broken off, a corner that is moved, a leg the other way round
+# ---- the gaps of a plan, in words, as arcs and in the rows under them; and the strip that bin/named says. The example plans, and plans at the edges of what can be
+# drawn: one rank among all, none, gaps through rank 0 and beside it, as many gaps as there can be, and where a cell of the strip begins and ends.
+drawings_plan() { printf '%s\n' $2 >"$drawings_out/plan-$1"; }
+last=895014631192902120
+cell=18646138149852127
+drawings_plan all-but-first "ports=20 legs=1 start=1 run=$((last - 1))"
+drawings_plan all-but-last "ports=20 legs=1 start=0 run=$((last - 1))"
+drawings_plan all-but-one "ports=20 legs=1 start=400000000000000000 run=-$((last - 1))"
+drawings_plan all-but-two "ports=20 legs=2 start=1 run=400000000000000000 start=400000000000000002 run=$((last - 400000000000000002))"
+drawings_plan first-alone 'ports=20 legs=1 start=0 run=0'
+drawings_plan last-alone "ports=20 legs=1 start=$last run=0"
+drawings_plan one-alone 'ports=20 legs=1 start=123456789012345678 run=0'
+drawings_plan circuit "ports=20 legs=1 start=5 run=-$last"
+drawings_plan circuits "ports=20 legs=2 start=5 run=-$last start=6 run=$last"
+drawings_plan cell "ports=20 legs=1 start=$cell run=$cell"
+drawings_plan cell-and-one "ports=20 legs=1 start=$cell run=$((cell + 1))"
+drawings_plan cell-but-first "ports=20 legs=1 start=$((cell + 1)) run=$((cell - 1))"
+drawings_plan cell-but-last "ports=20 legs=1 start=$cell run=$((cell - 1))"
+drawings_plan not-the-cell "ports=20 legs=1 start=$((2 * cell + 1)) run=$((last - cell - 1))"
+drawings_plan not-the-cell-but-one "ports=20 legs=1 start=$((2 * cell)) run=$((last - cell))"
+drawings_plan last-cell "ports=20 legs=1 start=$last run=-$((cell - 1))"
+drawings_plan ends-of-cells "ports=20 legs=3 start=$((cell - 1)) run=0 start=$((2 * cell)) run=0 start=$((last - cell)) run=1"
+drawings_plan within-a-cell 'ports=8 legs=2 start=310 run=-1 start=5000 run=307'
+drawings_plan over-the-end 'ports=8 legs=1 start=4000 run=-3700'
+drawings_plan to-rank-0 'ports=7 legs=1 start=1 run=1000'
+drawings_plan from-rank-0 'ports=7 legs=1 start=1000 run=853'
+drawings_plan single-ranks 'ports=5 legs=3 start=0 run=2 start=4 run=13 start=20 run=22'
+drawings_plan 48-ranks-and-more 'ports=6 legs=2 start=48 run=0 start=96 run=5'
+drawings_plan every-other 'ports=4 legs=4 start=1 run=0 start=3 run=0 start=5 run=0 start=7 run=0'
+drawings_plan one-of-two 'ports=3 legs=1 start=1 run=0'
+drawings_plan sixteen "ports=20 legs=16 $(leg=0; while [ "$leg" -lt 16 ]; do echo "start=$((leg * 54321098765432109 + 1234567)) run=$((leg * 3111111111111111))"; leg=$((leg + 1)); done)"
+drawings_plan sixteen-small "ports=6 legs=16 $(leg=0; while [ "$leg" -lt 16 ]; do echo "start=$((leg * 16 + 3)) run=$((leg % 2 ? -leg / 2 : leg))"; leg=$((leg + 1)); done)"
+gaps_right=0
+gaps_met=0
+for plan in plans/* "$drawings_out"/plan-*; do
+    label=${plan##*/}
+    gaps_told "$plan" >"$drawings_out/told"
+    gaps_turned "$plan" >"$drawings_out/turned"
+    bin/show "$plan" | awk -f tests/drawing/gaps_back.awk >"$drawings_out/text"
+    bin/show --svg "$plan" >"$drawings_out/picture"
+    awk -v rows=1 -f tests/drawing/plan_back.awk "$drawings_out/picture" >"$drawings_out/rows"
+    awk -v gaps=1 -f tests/drawing/plan_back.awk "$drawings_out/picture" >"$drawings_out/arcs"
+    bin/named --words "$plan" 2>"$drawings_out/said" >/dev/null
+    strip=$(strip_told "$drawings_out/said" "$plan")
+    if ! cmp "$drawings_out/text" "$drawings_out/told"; then
+        fail "drawings: $label: the words have other gaps"
+    elif ! cmp "$drawings_out/rows" "$drawings_out/told"; then
+        fail "drawings: $label: the rows of the picture have other gaps"
+    elif ! cmp "$drawings_out/arcs" "$drawings_out/turned"; then
+        cat "$drawings_out/arcs" "$drawings_out/turned"
+        fail "drawings: $label: a gap is drawn elsewhere"
+    elif [ "$strip" != right ]; then
+        fail "drawings: $label: the strip: $strip"
+    else
+        gaps_right=$((gaps_right + 1))
+        gaps_met=$((gaps_met + $(wc -l <"$drawings_out/arcs")))
+    fi
+done
+if [ "$gaps_right" -ge 35 ] && [ "$gaps_met" -ge 60 ]; then
+    pass "drawings: the gaps of $gaps_right plans, $gaps_met of them, each in words, as an arc, in a row and in the strip"
+else
+    fail "drawings: only the gaps of $gaps_right plans are read back, $gaps_met of them"
+fi
+
+# ---- the readers see what is wrong: a cord that ends elsewhere, two ports exchanged, a cord that is broken off, a corner that is moved, a leg the other way round; a
+# gap that is moved, too long, without a bar, like a leg, under another number; another number in the words; a sign of the strip that is another
 bin/show --pattern 5,4,2,3,1 >"$drawings_out/text"
 bin/show --svg --pattern 5,4,2,3,1 >"$drawings_out/picture"
 bin/show --svg plans/example >"$drawings_out/plan"
-# unseen LABEL READER FILE SCRIPT: sed's SCRIPT changes the drawing, and the reader gives the same as before
+# unseen LABEL READER FILE SCRIPT [MODE]: sed's SCRIPT changes the drawing, and the reader, in that mode, gives the same as before
 unseen() {
     sed "$4" "$3" >"$drawings_out/damaged"
     if cmp -s "$3" "$drawings_out/damaged"; then
         fail "drawings: $1: the drawing is not damaged"
-    elif [ "$(awk -f "tests/drawing/$2" "$drawings_out/damaged")" = "$(awk -f "tests/drawing/$2" "$3")" ]; then
+    elif [ "$(awk ${5:+-v "$5"} -f "tests/drawing/$2" "$drawings_out/damaged")" = "$(awk ${5:+-v "$5"} -f "tests/drawing/$2" "$3")" ]; then
         fail "drawings: $1 is not seen"
     else
         pass "drawings: $1 is seen"
@@ -115,6 +182,80 @@ unseen 'two ports exchanged' text_back.awk "$drawings_out/text" 's/^\(port .*\)1
 unseen 'a cord that ends elsewhere' svg_back.awk "$drawings_out/picture" '0,/class="cord"/s/\(class="cord".* \)\([0-9]*\)\.\([0-9]*\)"/\199.\3"/'
 unseen 'a jack without its number' svg_back.awk "$drawings_out/picture" '/>3<\/text>/d'
 unseen 'a leg that runs the other way' plan_back.awk "$drawings_out/plan" '0,/class="leg"/s/ 0 0 1 / 0 0 0 /'
+bin/show --svg "$drawings_out/plan-single-ranks" >"$drawings_out/plan"
+bin/show "$drawings_out/plan-single-ranks" >"$drawings_out/text"
+unseen 'a gap the other way round' plan_back.awk "$drawings_out/plan" '/class="gap"/s/ 0 0 1 / 0 0 0 /' gaps=1
+unseen 'a gap that is not drawn' plan_back.awk "$drawings_out/plan" '0,/class="gap"/{/class="gap"/d}' gaps=1
+unseen 'a gap that begins elsewhere' plan_back.awk "$drawings_out/plan" '0,/class="gap"/s/\(class="gap" d="M \)[0-9.]* [0-9.]*/\1420.000 175.000/' gaps=1
+unseen 'a gap that is drawn as a leg is' plan_back.awk "$drawings_out/plan" '/class="gap"/s/ stroke-dasharray="[^"]*"//' gaps=1
+unseen 'a leg that is drawn as a gap is' plan_back.awk "$drawings_out/plan" '/class="leg"/s/ stroke-linecap/ stroke-dasharray="2 3" stroke-linecap/' gaps=1
+unseen 'a gap without one of its bars' plan_back.awk "$drawings_out/plan" '0,/class="bar"/{/class="bar"/d}' gaps=1
+unseen 'a bar that stands elsewhere' plan_back.awk "$drawings_out/plan" '0,/class="bar"/s/\(class="bar" d="M \)[0-9.]* [0-9.]*/\1420.000 164.000/' gaps=1
+unseen 'a gap under another number' plan_back.awk "$drawings_out/plan" '/font-size="10"/s/>2</>3</' gaps=1
+unseen 'another number in a row' plan_back.awk "$drawings_out/plan" 's/>18 to 19</>18 to 29</' rows=1
+unseen 'a row without its ranks' plan_back.awk "$drawings_out/plan" '/>18 to 19</d' rows=1
+unseen 'another number in what is named' plan_back.awk "$drawings_out/plan" 's/>named 40 of/>named 41 of/' rows=1
+unseen 'another rank in the words' gaps_back.awk "$drawings_out/text" 's/ranks 18 to 19/ranks 18 to 18/'
+unseen 'another number of patterns in the words' gaps_back.awk "$drawings_out/text" 's/2 patterns/3 patterns/'
+unseen 'a gap that the words leave out' gaps_back.awk "$drawings_out/text" '/^gap 2/d'
+bin/show "$drawings_out/plan-over-the-end" >"$drawings_out/text"
+unseen 'the end of the list left out of the words' gaps_back.awk "$drawings_out/text" 's/, passing the end of the list//'
+
+# damaged_strip LABEL PLAN SCRIPT: sed's SCRIPT changes the strip of the plan, and its reader does not see it
+damaged_strip() {
+    bin/named --words "$2" 2>"$drawings_out/said" >/dev/null
+    sed "$3" "$drawings_out/said" >"$drawings_out/damaged"
+    if cmp -s "$drawings_out/said" "$drawings_out/damaged"; then
+        fail "drawings: $1: the strip is not damaged"
+    elif [ "$(strip_told "$drawings_out/damaged" "$2")" = right ]; then
+        fail "drawings: $1 is not seen"
+    else
+        pass "drawings: $1 is seen"
+    fi
+}
+damaged_strip 'one rank among all taken for named' "$drawings_out/plan-all-but-first" 's/\[+/[#/'
+damaged_strip 'one rank among all taken for not named' "$drawings_out/plan-last-alone" 's/+\]/.]/'
+damaged_strip 'a cell that is not all named' "$drawings_out/plan-cell" 's/\[\.#/[.+/'
+damaged_strip 'a cell that is not all in a gap' "$drawings_out/plan-not-the-cell" 's/\[#\./[#+/'
+damaged_strip 'a cell too much' plans/overlap-6 's/\]/.]/'
+damaged_strip 'a cell too few' plans/overlap-6 's/\.\]/]/'
+damaged_strip 'a strip that begins elsewhere' plans/overlap-6 's/\[\(.*\)\(.\)\]/[\2\1]/'
+damaged_strip 'a strip from the other end' plans/example 's/\[###\.\.\.\.##\]/[##....###]/'
+damaged_strip 'a strip without what its signs are' plans/example 's/# all/#/'
+damaged_strip 'a strip that is missing' plans/example '/\[/d'
+
+# ---- a drawer draws nothing from facts that do not fit together, and says why
+bin/show --facts "$drawings_out/plan-single-ranks" >"$drawings_out/facts"
+# refuses SCRIPT WHY: facts changed by sed's SCRIPT are refused by both drawers of plans
+refuses() {
+    sed "$1" "$drawings_out/facts" >"$drawings_out/damaged"
+    for form in text svg; do
+        awk -v name=show -f commands/facts.awk -f "commands/plan_$form.awk" <"$drawings_out/damaged" >"$drawings_out/drawing" 2>"$drawings_out/why"
+        if [ $? -eq 1 ] && [ ! -s "$drawings_out/drawing" ] && [ "$(cat "$drawings_out/why")" = "show: $2" ]; then
+            refused_facts=$((refused_facts + 1))
+        else
+            cat "$drawings_out/why"
+            fail "drawings: facts with $1 are drawn, or refused for another reason"
+        fi
+    done
+}
+refused_facts=0
+refuses '/^named=/d' 'the facts are not complete'
+refuses '/^of=/d' 'the facts are not complete'
+refuses 's/^of=44/of=45/' 'the facts are not complete'
+refuses '/^gaps=/d' 'the facts are not complete'
+refuses 's/^gaps=3/gaps=2/' 'the facts are not complete'
+refuses '$d' 'the facts are not complete'
+refuses '$p' 'the facts are not complete'
+refuses 's/^named=40/named=41/' 'the named ranks and the gaps are not the whole circuit'
+refuses 's/^gap=18,2/gap=18,1/' 'the named ranks and the gaps are not the whole circuit'
+refuses 's/^gap=3,1/gap=3,0/' 'gap 1 is none'
+refuses 's/^gap=43,1/gap=44,1/' 'gap 3 is none'
+refuses 's/^gap=3,1/gap=3,15/' 'gap 1 runs into the next one'
+refuses 's/^gap=3,1/gap=19,1/' 'gap 1 runs into the next one'
+refuses 's/^gap=43,1/gap=43,4/' 'gap 3 runs into the next one'
+refuses 's/^gap=18,2/gap=18/' 'a line that is no fact: gap=18'
+[ "$refused_facts" -ne 30 ] || pass 'drawings: nothing is drawn from facts that do not fit together'
 
 # ---- what stands on a page: the name of the file, safely; the planners' page has the very drawing and the very words
 cp plans/example "$drawings_out/a&b<c>\\n\"d"
@@ -124,9 +265,10 @@ if grep -qF 'a&amp;b&lt;c&gt;\n&quot;d</title>' "$drawings_out/picture" && [ "$(
 else
     fail 'drawings: a name with the signs of a picture breaks it'
 fi
-# shown COMMAND: what the command prints stands on the planners' page, as a block
+# shown COMMAND [WORDS]: what the command prints stands on the planners' page, as a block; with a second word, what it says on standard error
 shown() {
-    $1 >"$drawings_out/text"
+    $1 2>"$drawings_out/said" >"$drawings_out/text"
+    [ -z "${2-}" ] || mv "$drawings_out/said" "$drawings_out/text"
     if awk '
         NR == FNR { line[++n] = $0 == "" ? "" : "    " $0; next }
         { page[++m] = $0 }
@@ -134,11 +276,16 @@ shown() {
             for (i = 0; i + n <= m && !found; i++) { found = n > 0; for (k = 1; k <= n && found; k++) found = page[i + k] == line[k] }
             exit !found
         }' "$drawings_out/text" docs/PLANS.md; then
-        pass "drawings: docs/PLANS.md shows what $1 draws"
+        pass "drawings: docs/PLANS.md shows what $1 ${2:-draws}"
     else
-        fail "drawings: docs/PLANS.md does not show what $1 draws"
+        fail "drawings: docs/PLANS.md does not show what $1 ${2:-draws}"
     fi
 }
 shown 'bin/show --pattern 5,4,2,3,1'
 shown 'bin/show plans/example'
+shown 'bin/show plans/middle-4'
+for plan in plans/overlap-6 plans/middle-4; do
+    shown "bin/named $plan"
+    shown "bin/named --words $plan" says
+done
 rm -rf "$drawings_out"

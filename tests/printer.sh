@@ -1,27 +1,30 @@
-# What the order printer prints: bin/orders on plan files, good and bad. How it ends and what it says in words is in commands.sh.
+# What the order printer prints, and what bin/named prints of what a plan names: both on plan files, good and bad. How they end and what they say in words is in
+# commands.sh.
+. "$root/tests/drawing/gaps.sh"
 printer_out=$(mktemp -d)
-bin/orders --quiet plans/two-ports >/dev/null || fail 'orders: it does not run'
+for command in orders named; do bin/$command --quiet plans/two-ports >/dev/null || fail "$command: it does not run"; done
 
-# printed LABEL: what bin/orders prints for the plan in $printer_out/plan, nothing on standard error, is what stands in $printer_out/expected
+# printed COMMAND LABEL: what the command prints for the plan in $printer_out/plan, nothing on standard error, is what stands in $printer_out/expected
 printed() {
-    bin/orders <"$printer_out/plan" >"$printer_out/found" 2>"$printer_out/said"
+    bin/$1 <"$printer_out/plan" >"$printer_out/found" 2>"$printer_out/said"
     if [ -s "$printer_out/said" ]; then
         cat "$printer_out/said"
-        fail "orders: $1: something is said on standard error"
+        fail "$1: $2: something is said on standard error"
     elif cmp "$printer_out/found" "$printer_out/expected"; then
-        pass "orders: $1"
+        pass "$1: $2"
     else
         head -n 5 "$printer_out/found"
-        fail "orders: $1: another output"
+        fail "$1: $2: another output"
     fi
 }
 
-# refused LABEL NUMBER PLACE PLAN: the plan, a format of printf, is refused with that number at that place, and nothing else is printed
+# refused LABEL NUMBER PLACE PLAN: the plan, a format of printf, is refused by both with that number at that place, and nothing else is printed
 refused() {
     # shellcheck disable=SC2059
     printf "$4" >"$printer_out/plan"
     printf 'refused=%s\nat=%s\n' "$2" "$3" >"$printer_out/expected"
-    printed "$1 is refused with $2 at $3"
+    printed orders "$1 is refused with $2 at $3"
+    printed named "$1 is refused with $2 at $3"
 }
 
 # filler LENGTH: that many digits
@@ -30,7 +33,7 @@ filler() { head -c "$1" /dev/zero | tr '\0' 1; }
 # the paper's example, byte for byte
 cp plans/example "$printer_out/plan"
 printf '%s\n' mark=0,0 turn=1,2,3 mark=1,1 swap=1,2 mark=2,2 swap=1,3 swap=2,4 mark=3,8 swap=1,3 mark=4,7 end=5 >"$printer_out/expected"
-printed "the paper's example"
+printed orders "the paper's example"
 
 # each refusal that a plan can meet
 refused '21 ports' 1 1 'ports=21\nlegs=1\nstart=0\nrun=0\n'
@@ -50,7 +53,8 @@ refused '1,024 bytes in one line' 8 1 "ports=$(filler 1017)\\n"
 refused '1,025 bytes in one line' 11 1 "ports=$(filler 1018)\\n"
 { cat plans/example && head -c 1048576 /dev/zero; } >"$printer_out/plan"
 printf 'refused=11\nat=7\n' >"$printer_out/expected"
-printed 'a plan with 1 MiB after it is refused with 11 at 7'
+printed orders 'a plan with 1 MiB after it is refused with 11 at 7'
+printed named 'a plan with 1 MiB after it is refused with 11 at 7'
 
 # the orders of a full circuit, carried out here on a panel that starts at home: each mark has its number and rank in turn, and a derangement not met before
 bin/orders <plans/full-circuit-6 >"$printer_out/found"
@@ -87,6 +91,7 @@ plans/two-ports end=1
 plans/full-circuit-6 end=265
 plans/backward-5 end=44
 plans/overlap-6 end=20
+plans/middle-4 end=5
 plans/sample-20 end=10
 plans/full-circuit-10 end=1334961
 ENDS
@@ -97,19 +102,119 @@ if [ "$(bin/orders <plans/overlap-6 | sed -n 's/^mark=[0-9]*,//p' | sort -u | wc
 else
     fail 'orders: plans/overlap-6 does not name as many patterns as docs/PLANS.md says'
 fi
-count=1
-before_it=0
 ports=2
-while [ "$ports" -le 20 ] && grep -qF "| $ports | $count | \`run=$((count - 1))\` |" docs/PLANS.md; do
-    next_count=$((ports * (count + before_it)))
-    before_it=$count
-    count=$next_count
+while [ "$ports" -le 20 ] && count=$(count_of "$ports") && grep -qF "| $ports | $count | \`run=$((count - 1))\` |" docs/PLANS.md; do
     ports=$((ports + 1))
 done
 if [ "$ports" -eq 21 ]; then
     pass 'docs/PLANS.md has the counts of 2 to 20 ports'
 else
     fail "docs/PLANS.md has another count for $ports ports"
+fi
+
+# ---- what a plan names: how many different ranks, of how many, and the gaps, each with its first rank and how many it has
+
+# names LABEL PLAN LINES: bin/named prints these lines, with blanks between them, for the plan, whose lines have blanks between them too
+names() {
+    echo "$2" | tr ' ' '\n' >"$printer_out/plan"
+    echo "$3" | tr ' ' '\n' >"$printer_out/expected"
+    printed named "$1"
+}
+names 'two legs that overlap' 'ports=6 legs=2 start=0 run=9 start=5 run=9' 'named=15 of=265 gaps=1 gap=15,250'
+names 'a leg within another' 'ports=6 legs=2 start=3 run=0 start=5 run=-5' 'named=6 of=265 gaps=1 gap=6,259'
+names 'a leg twice' 'ports=5 legs=2 start=7 run=3 start=7 run=3' 'named=4 of=44 gaps=1 gap=11,40'
+names 'the one pattern of two ports' 'ports=2 legs=1 start=0 run=0' 'named=1 of=1 gaps=0'
+names 'the first of two' 'ports=3 legs=1 start=0 run=0' 'named=1 of=2 gaps=1 gap=1,1'
+names 'the second of two' 'ports=3 legs=1 start=1 run=0' 'named=1 of=2 gaps=1 gap=0,1'
+names 'a full circuit from its middle' 'ports=4 legs=1 start=5 run=8' 'named=9 of=9 gaps=0'
+names 'the same backward' 'ports=4 legs=1 start=5 run=-8' 'named=9 of=9 gaps=0'
+names 'a full circuit of two halves' 'ports=4 legs=2 start=7 run=4 start=6 run=-3' 'named=9 of=9 gaps=0'
+names 'a gap through rank 0 is one' 'ports=4 legs=1 start=2 run=4' 'named=5 of=9 gaps=1 gap=7,4'
+names 'a gap that ends at rank 0' 'ports=4 legs=1 start=1 run=6' 'named=7 of=9 gaps=1 gap=8,2'
+names 'a gap that begins at rank 0' 'ports=4 legs=1 start=8 run=-4' 'named=5 of=9 gaps=1 gap=0,4'
+names 'rank 0 alone is not named' 'ports=4 legs=1 start=8 run=-7' 'named=8 of=9 gaps=1 gap=0,1'
+names 'the last rank alone is not named' 'ports=4 legs=1 start=0 run=7' 'named=8 of=9 gaps=1 gap=8,1'
+names 'a leg past the end of the list' 'ports=4 legs=1 start=7 run=3' 'named=4 of=9 gaps=1 gap=2,5'
+names 'a leg backward past the beginning' 'ports=4 legs=1 start=1 run=-3' 'named=4 of=9 gaps=1 gap=2,5'
+names 'two legs that meet leave no gap between them' 'ports=4 legs=2 start=3 run=2 start=0 run=2' 'named=6 of=9 gaps=1 gap=6,3'
+names 'two legs that meet at the end of the list' 'ports=4 legs=2 start=0 run=0 start=8 run=0' 'named=2 of=9 gaps=1 gap=1,7'
+names 'gaps of one rank' 'ports=4 legs=2 start=0 run=2 start=4 run=3' 'named=7 of=9 gaps=2 gap=3,1 gap=8,1'
+names 'gaps rise, whatever the order of the legs' 'ports=4 legs=2 start=7 run=0 start=1 run=0' 'named=2 of=9 gaps=2 gap=2,5 gap=8,2'
+names 'as many gaps as legs, sixteen' \
+    "ports=6 legs=16 $(for leg in 0 1 2 3 4 5 6 7 8 9 10 11 12 13 14 15; do printf 'start=%s run=0 ' $((16 * leg)); done | sed 's/ $//')" \
+    "named=16 of=265 gaps=16 $(for leg in 0 1 2 3 4 5 6 7 8 9 10 11 12 13 14; do printf 'gap=%s,15 ' $((16 * leg + 1)); done)gap=241,24"
+names '20 ports, every rank' 'ports=20 legs=1 start=7 run=-895014631192902120' 'named=895014631192902121 of=895014631192902121 gaps=0'
+names '20 ports, every rank but the last' 'ports=20 legs=1 start=0 run=895014631192902119' \
+    'named=895014631192902120 of=895014631192902121 gaps=1 gap=895014631192902120,1'
+names '20 ports, rank 0 alone' 'ports=20 legs=1 start=0 run=0' 'named=1 of=895014631192902121 gaps=1 gap=1,895014631192902120'
+names '20 ports, a gap of all but two' 'ports=20 legs=2 start=400000000000000000 run=1 start=400000000000000001 run=0' \
+    'named=2 of=895014631192902121 gaps=1 gap=400000000000000002,895014631192902119'
+
+# the example plans: as the marks that bin/orders prints have it, rank by rank, where there are not too many; from the legs, worked out in the shell; and on the page
+# met_told PLAN: what bin/named is to print, from the ranks at the marks
+met_told() {
+    bin/orders "$1" | sed -n 's/^mark=[0-9]*,//p' | sort -n -u >"$printer_out/ranks"
+    echo "named=$(wc -l <"$printer_out/ranks")"
+    count=$(count_in "$1")
+    echo "of=$count"
+    first=$(head -n 1 "$printer_out/ranks")
+    { cat "$printer_out/ranks" && echo $((first + count)); } | {
+        read -r last
+        while read -r rank; do
+            [ "$rank" -eq $((last + 1)) ] || echo "$(((last + 1) % count)) $((rank - last - 1))"
+            last=$rank
+        done
+    } | sort -n >"$printer_out/gaps"
+    echo "gaps=$(wc -l <"$printer_out/gaps")"
+    sed 's/^\([0-9]*\) /gap=\1,/' "$printer_out/gaps"
+}
+for plan in plans/*; do
+    cp "$plan" "$printer_out/plan"
+    named_told "$plan" >"$printer_out/expected"
+    printed named "$plan, as its legs have it"
+    if [ "$(bin/show --facts "$plan" | sed -n 's/^end=//p')" -le 2000 ]; then
+        met_told "$plan" >"$printer_out/expected"
+        printed named "$plan, as its marks have it"
+    fi
+    if [ "$(bin/show --facts "$plan" | sed -n '/^named=/,$p')" != "$(bin/named "$plan")" ]; then fail "show: $plan: other facts than bin/named prints"; fi
+    grep -F "\`$plan\`" docs/PLANS.md | grep -qF "| \`$(bin/named "$plan" | head -n 1)\` |" || fail "docs/PLANS.md does not say what $plan names"
+done
+# plans of 2 to 20 ports by chance, always the same ones: their legs are short or long, most of them overlap
+chance=2026
+drawn_from() {
+    high=$chance
+    chance=$(((chance * 1103515245 + 12345) % 2147483648))
+    drawn=$(((high * 2147483648 + chance) % $1))
+    chance=$(((chance * 1103515245 + 12345) % 2147483648))
+}
+tried=0
+strange=0
+while [ "$tried" -lt 38 ] && [ "$strange" -eq 0 ]; do
+    tried=$((tried + 1))
+    ports=$((2 + tried % 19))
+    count=$(count_of "$ports")
+    drawn_from 16
+    legs=$((drawn + 1))
+    {
+        printf 'ports=%s\nlegs=%s\n' "$ports" "$legs"
+        while [ "$legs" -gt 0 ]; do
+            drawn_from "$count"
+            start=$drawn
+            drawn_from "$((count / (1 + tried % 5 * 4) + 1))"
+            [ "$drawn" -lt "$count" ] || drawn=0
+            [ "$drawn" -eq 0 ] || [ $((chance / 65536 % 2)) -eq 0 ] || drawn=-$drawn
+            printf 'start=%s\nrun=%s\n' "$start" "$drawn"
+            legs=$((legs - 1))
+        done
+    } >"$printer_out/plan"
+    named_told "$printer_out/plan" >"$printer_out/expected"
+    bin/named "$printer_out/plan" >"$printer_out/found" && cmp -s "$printer_out/found" "$printer_out/expected" || strange=$tried
+done
+if [ "$strange" -eq 0 ]; then
+    pass "named: $tried plans by chance"
+else
+    cat "$printer_out/plan" "$printer_out/found"
+    fail "named: a plan by chance, number $tried, names something else"
 fi
 
 rm -rf "$printer_out"

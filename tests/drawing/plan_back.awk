@@ -1,7 +1,10 @@
 # The picture of a plan, read back from where its parts stand: the circle of class circuit has rank 0 at its top, clockwise rising; each path of class leg
 # is an arc about its centre. For each leg in order it prints where the arc begins and ends, in thousandths of a turn, and its direction; `once round`
 # where it comes back to its beginning; `one mark` where it is a point; or `broken: why`. With ticks=1 it prints instead, for each path of class tick,
-# the rank that is written at its outer end, and where it stands.
+# the rank that is written at its outer end, and where it stands. With gaps=1 it prints for each path of class gap, in order, where it begins and ends and
+# how far it goes, in thousandths of a turn: an arc clockwise in dashes, on a ring outside the legs, with a bar at each end and its number in the middle.
+# With rows=1 it prints what is written: how many are named, of how many, how many not, in how many gaps, or `all`; and from the row under `gap` on, for each
+# row its first rank, its last, how many ranks, and `over` where it says so.
 BEGIN { RS = ">" }
 {
     text = tag = $0
@@ -14,12 +17,16 @@ BEGIN { RS = ">" }
     if (tag ~ /^text[ \t\n]/) { texts++; text_x[texts] = attribute("x"); text_y[texts] = attribute("y") }
     if (tag ~ /^\/text/) content[texts] = text
     if (tag ~ /^path[ \t\n]/ && class == "tick") tick[++long_ticks] = attribute("d")
-    if (tag ~ /^path[ \t\n]/ && class == "leg") path[++legs] = attribute("d")
+    if (tag ~ /^path[ \t\n]/ && class == "leg") { path[++legs] = attribute("d"); if (attribute("stroke-dasharray") != "") dashed_legs++ }
+    if (tag ~ /^path[ \t\n]/ && class == "gap") { gap_path[++gap_paths] = attribute("d"); dashes[gap_paths] = attribute("stroke-dasharray") }
+    if (tag ~ /^path[ \t\n]/ && class == "bar") bar[++bars] = attribute("d")
     if (tag ~ /^path[ \t\n]/ && class == "head") head[legs] = attribute("d")
 }
 
 END {
     if (moved || circuits != 1 || legs < 1 || dots != legs) print "broken: " (moved ? "a part that is moved" : "no circuit, no leg or no dot")
+    else if (gaps) for (g = 1; g <= gap_paths; g++) print gap_told(g)
+    else if (rows) read_rows()
     else if (ticks) for (k = 1; k <= long_ticks; k++) print labelled(tick[k])
     else for (leg = 1; leg <= legs; leg++) print told(leg)
 }
@@ -87,6 +94,68 @@ function leads(leg, x, y, sweep,    part, ahead) {
     if (far(distance(part[5], part[6], middle_x, middle_y), ring[leg]) || distance(part[5], part[6], x, y) > 30) return 0
     ahead = (x - middle_x) * (part[6] - y) - (y - middle_y) * (part[5] - x)
     return sweep == 1 ? ahead > 0 : ahead < 0
+}
+
+# a gap, where it is drawn as one: between the circuit and the outermost leg, dashed as no leg is
+function gap_told(g,    part, n, i, away, whole, step, leg, first) {
+    n = parts(gap_path[g], part)
+    away = distance(part[2], part[3], middle_x, middle_y)
+    if (part[1] != "M" || n < 6 || away > outer - 4) return "broken: no path within the circuit"
+    for (leg = 1; leg <= legs; leg++) if (parts(path[leg], first) < 6 || distance(first[2], first[3], middle_x, middle_y) > away - 12) return "broken: among the legs"
+    if (dashed_legs > 0 || dashes[g] !~ /[1-9]/) return "broken: it looks like a leg"
+    if (part[4] == "L" && (n != 6 || part[2] != part[5] || part[3] != part[6])) return "broken: a straight line"
+    if (part[4] != "L") for (i = 4; i <= n; i += 8) {
+        step = arc(part, i, away, 1)
+        if (step < 0 || i + 7 > n) return "broken: an arc that is not on its ring, clockwise"
+        whole += step
+    }
+    if (bars != 2 * gap_paths || !barred(bar[2 * g - 1], part[2], part[3]) || !barred(bar[2 * g], part[n - 1], part[n])) return "broken: without its bars"
+    if (!numbered(g, turn(part[2], part[3]) + whole / 2, away)) return "broken: without its number"
+    return thousandths(part[2], part[3]) " " thousandths(part[n - 1], part[n]) " " int(whole * 1000 + 0.5)
+}
+
+# whether a straight line goes from the circuit inward through a point, past it
+function barred(d, x, y,    part, long) {
+    if (parts(d, part) != 6 || part[4] != "L" || far(distance(part[2], part[3], middle_x, middle_y), outer)) return 0
+    long = distance(part[2], part[3], part[5], part[6])
+    return long > 8 && long < 24 && !far(distance(part[2], part[3], x, y) + distance(x, y, part[5], part[6]), long)
+}
+
+# whether the one text that stands so far round and so far out is that number
+function numbered(g, round, away,    t, off, found, number) {
+    for (t = 1; t <= texts; t++) {
+        if (far(distance(text_x[t], text_y[t], middle_x, middle_y), away)) continue
+        off = turn(text_x[t], text_y[t]) - round
+        off -= int(off)
+        if (off < 0) off += 1
+        if (off < 0.0005 || off > 0.9995) { found++; number = content[t] }
+    }
+    return found == 1 && number == g ""
+}
+
+# what is written: rows are texts of the same height, and the gaps' are those under the one that begins with `gap`
+function read_rows(    t, height, line, under, words) {
+    for (t = 1; t <= texts; t++) {
+        if (content[t] ~ /^named [0-9]+ of [0-9]+ patterns, [0-9]+ in [0-9]+ gaps?$/) { split(content[t], words, " "); print words[2], words[4], words[6], words[8] }
+        if (content[t] == "every pattern is named") print "all"
+        if (content[t] == "gap") under = text_y[t]
+    }
+    for (t = 1; t <= texts && under != ""; t++) {
+        if (text_y[t] + 0 <= under + 0) continue
+        if (text_y[t] != height && height != "") { print row_told(line); line = "" }
+        height = text_y[t]
+        line = line (line == "" ? "" : "|") content[t]
+    }
+    if (line != "") print row_told(line)
+}
+
+# number, how many, ranks, and what more there is
+function row_told(line,    cell, rank, n) {
+    split(line, cell, "|")
+    n = split(cell[3], rank, " to ")
+    told_rows++
+    if (cell[1] != told_rows "" || (n == 1) != (cell[2] == "1")) return "broken: " line
+    return rank[1] " " rank[n] " " cell[2] " " (cell[4] == "over the end" ? "over" : (cell[4] == "" ? "-" : cell[4]))
 }
 
 # a tick from the circuit outward, and the one label at its outer end
