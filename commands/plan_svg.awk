@@ -76,14 +76,14 @@ function draw_leg(leg,    ring, from, to) {
     from = rank[2 * leg - 1] / count
     to = circuit(leg) ? from : rank[2 * leg] / count
     printf "<path class=\"leg\" d=\"%s\" fill=\"none\" stroke=\"%s\" stroke-width=\"%s\" stroke-linecap=\"%s\"/>\n", \
-        arc_path(ring, from, to, part(leg), backward(leg)), colour[leg], thick, (run[leg] == "0" ? "round" : "butt")
+        arc_path(ring, from, to, leg_turn(leg), backward(leg)), colour[leg], thick, (run[leg] == "0" ? "round" : "butt")
     if (run[leg] != "0") head(leg, ring, to)
     printf "<circle class=\"start\" cx=\"%.3f\" cy=\"%.3f\" r=\"%s\" fill=\"%s\" stroke=\"white\" stroke-width=\"1.2\"/>\n", \
         at_x(from, ring), at_y(from, ring), thick, colour[leg]
 }
 
 # how much of a turn a leg goes: the ring of a whole circuit is closed
-function part(leg) { return run[leg] == "0" ? 0 : (circuit(leg) ? 1 : steps(leg) / count) }
+function leg_turn(leg) { return run[leg] == "0" ? 0 : (circuit(leg) ? 1 : steps(leg) / count) }
 
 # a gap: its hatching, a bar at each end, its number; what is too short to be seen still has its bars and its number
 function draw_gap(k,    from, to, turned, middle) {
