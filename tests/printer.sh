@@ -169,15 +169,21 @@ met_told() {
     sed 's/^\([0-9]*\) /gap=\1,/' "$printer_out/gaps"
 }
 for plan in plans/*; do
-    cp "$plan" "$printer_out/plan"
+    bin/named "$plan" >"$printer_out/found"
+    bin/show --facts "$plan" >"$printer_out/facts"
     named_told "$plan" >"$printer_out/expected"
-    printed named "$plan, as its legs have it"
-    if [ "$(bin/show --facts "$plan" | sed -n 's/^end=//p')" -le 2000 ]; then
-        met_told "$plan" >"$printer_out/expected"
-        printed named "$plan, as its marks have it"
+    if [ "$(sed -n 's/^end=//p' "$printer_out/facts")" -le 2000 ]; then met_told "$plan"; else cat "$printer_out/expected"; fi >"$printer_out/met"
+    if ! cmp "$printer_out/found" "$printer_out/expected"; then
+        fail "named: $plan: something else than its legs have"
+    elif ! cmp "$printer_out/found" "$printer_out/met"; then
+        fail "named: $plan: something else than its marks have"
+    elif ! sed -n '/^named=/,$p' "$printer_out/facts" | cmp "$printer_out/found" -; then
+        fail "show: $plan: other facts than bin/named prints"
+    elif ! grep -F "\`$plan\`" docs/PLANS.md | grep -qF "| \`$(head -n 1 "$printer_out/found")\` |"; then
+        fail "docs/PLANS.md does not say what $plan names"
+    else
+        pass "named: $plan, as its legs and its marks have it, and docs/PLANS.md"
     fi
-    if [ "$(bin/show --facts "$plan" | sed -n '/^named=/,$p')" != "$(bin/named "$plan")" ]; then fail "show: $plan: other facts than bin/named prints"; fi
-    grep -F "\`$plan\`" docs/PLANS.md | grep -qF "| \`$(bin/named "$plan" | head -n 1)\` |" || fail "docs/PLANS.md does not say what $plan names"
 done
 # plans of 2 to 20 ports by chance, always the same ones: their legs are short or long, most of them overlap
 chance=2026
@@ -189,7 +195,7 @@ drawn_from() {
 }
 tried=0
 strange=0
-while [ "$tried" -lt 38 ] && [ "$strange" -eq 0 ]; do
+while [ "$tried" -lt 19 ] && [ "$strange" -eq 0 ]; do
     tried=$((tried + 1))
     ports=$((2 + tried % 19))
     count=$(count_of "$ports")
