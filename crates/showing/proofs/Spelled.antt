@@ -11,20 +11,19 @@ use Rattle.plan_lines.specs.Field.{fieldText}
 use Rattle.line_writer.specs.Answers.{Spells, Grown}
 use Rattle.line_writer.specs.declared.order_lines.Spelled.{Spelled}
 use Rattle.line_writer.proofs.Spelling.{spells-more}
-use Rattle.showing.specs.Facts.{cordKey, cordText, runKey, runText}
+use Rattle.showing.specs.Facts.{pairText, runKey, runText}
 
 -- a key and a number, and the newline
 pub spells-field : (s r : Spelled) (key : List ℕ) (n : ℕ) → Spells s (key ++ digitsOf n) → Grown s (newline ∷ []) r → Spells r (fieldText key (digitsOf n))
 spells-field s r key n h g = spells-more s r (key ++ digitsOf n) (newline ∷ []) h g
 
--- a cord: its key and jack, a comma and the port, and the newline
-pub spells-cord : (s m r : Spelled) (j p : ℕ) → Spells s (cordKey ++ digitsOf j) → Grown s ((comma ∷ []) ++ digitsOf p) m → Grown m (newline ∷ []) r
-    → Spells r (cordText j p)
-unfolding cordText
-spells-cord s m r j p h g n =
-    let both = spells-more s m (cordKey ++ digitsOf j) (comma ∷ digitsOf p) h g in
+-- a key and a number, a comma and another, and the newline
+pub spells-pair : (s m r : Spelled) (key : List ℕ) (a b : ℕ) → Spells s (key ++ digitsOf a) → Grown s ((comma ∷ []) ++ digitsOf b) m
+    → Grown m (newline ∷ []) r → Spells r (pairText key a b)
+spells-pair s m r key a b h g n =
+    let both = spells-more s m (key ++ digitsOf a) (comma ∷ digitsOf b) h g in
     let all = spells-more m r _ (newline ∷ []) both n in
-    subst (Spells r) (ap (λ t. t ++ (newline ∷ [])) (append-assoc cordKey (digitsOf j) (comma ∷ digitsOf p))) all
+    subst (Spells r) (ap (λ t. t ++ (newline ∷ [])) (append-assoc key (digitsOf a) (comma ∷ digitsOf b))) all
 
 -- a run that goes back has its sign after the key, one that goes on has none
 module _ (s : Signed) (r : Spelled) where

@@ -11,15 +11,23 @@ ghost use lib.ListN.{length};
 ghost use Rattle.text_numbers.specs.Decimal.{digitsOf};
 ghost use Rattle.plan_lines.specs.Field.{fieldText};
 ghost use Rattle.line_writer.specs.Answers.{Spells};
-ghost use Rattle.showing.specs.Facts.{cordText, runText};
+ghost use Rattle.showing.specs.Facts.{pairText, cordText, runText};
+
+// Two numbers after their key, a comma between them.
+pub fn pair_line(key: &[u8], a: u64, b: u64) -> Spelled
+    requires { ⌜ length (now key) ≤ 5 ⌝ }
+    ensures { λ r. ⌜ Spells r (pairText (now (key .entry)) a b) ⌝ }
+{
+    let first = begun(key, a);
+    let both = and_both(first, b",", b);
+    and_part(both, b"\n")
+}
 
 // A cord: the jack, and the port that it holds.
 pub fn cord_line(j: Jack, p: Port) -> Spelled
     ensures { λ r. ⌜ Spells r (cordText (j .0) (p .0)) ⌝ }
 {
-    let jack = begun(b"cord=", j.0 as u64);
-    let both = and_both(jack, b",", p.0 as u64);
-    and_part(both, b"\n")
+    pair_line(b"cord=", j.0 as u64, p.0 as u64)
 }
 
 // A number after its key.
