@@ -105,7 +105,7 @@ fn words_of(number: u8) -> Worded
 // ---- all of them
 
 // A text written into a buffer from a place on.
-fn write_at(text: &[u8], at: usize, buf: &mut [u8])
+pub fn write_at(text: &[u8], at: usize, buf: &mut [u8])
     requires { ⌜ at + length (now text) ≤ length (now buf) ⌝ }
     ensures { λ _. ⌜ now (buf .exit) ≡ take at (now (buf .entry)) ++ over (now (text .entry)) (drop at (now (buf .entry))) ⌝ }
 {

@@ -30,7 +30,7 @@ places n = length (digitsOf n)
 -- ---- lines and legs
 
 -- a line has one byte more than its key and its value
-field-length : (key v : List ℕ) → length (fieldText key v) ≡ length key + length v + 1
+pub field-length : (key v : List ℕ) → length (fieldText key v) ≡ length key + length v + 1
 field-length key v = length-append (key ++ v) _ ∙ ap (λ k. k + 1) (length-append key v)
 
 -- a run has a sign more than digits, at most

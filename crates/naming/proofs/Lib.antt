@@ -1,0 +1,6 @@
+pub mod Putting
+pub mod Counts
+pub mod Gaps
+pub mod Longest
+pub mod Whole
+pub mod Contracts

@@ -1,0 +1,28 @@
+-- `naming::put_number` puts what is spelled.
+-- Assumes nothing.
+use borrow.Author.Needs.{needs}
+use Rattle.naming.proofs.Putting.{spelled-asked, spelled-puts}
+use Rattle.naming.proofs.put_number.Statement.{statement}
+use Rattle.naming.proofs.put_number.Tie as tie
+
+put-line-requires : tie.Need-put-line-requires
+put-line-requires c κs =
+    let l = c .before in
+    let s = l .before .before .before in
+    spelled-asked (l .number-line .result) _ (l .number-line .ensures) (s .args .at) (s .args .buf .now) (s .pre .1)
+
+returns : tie.Need-returns
+returns c =
+    let p = c .before .before in
+    let l = p .before .before in
+    let s = l .before .before .before in
+    spelled-puts (l .number-line .result) _ (l .number-line .ensures) (s .args .at) (s .args .buf .now) _ _ (p .put-line .ensures)
+
+pub put-number-spec : {M : Type 1} → statement M
+put-number-spec =
+    tie.close
+    (tie.spec
+    (λ c κs. search needs)
+    put-line-requires
+    (λ c. search needs)
+    returns)

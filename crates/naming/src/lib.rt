@@ -1,0 +1,93 @@
+// What a plan names, as text: how many ranks, of how many there are, and the gaps that it leaves, in lines of key=value.
+use line_sentence::write_at;
+use line_writer::order_lines::Spelled;
+use pattern_steps::counts::count_of;
+use plan_arcs::gaps::count_named;
+use plan_arcs::gaps::put_gaps;
+use plan_rules::Plan;
+use showing::facts::number_line;
+use showing::facts::pair_line;
+ghost use mathlib.Core.Path.{_≡_};
+ghost use mathlib.Core.Bool.{true};
+ghost use Prim.Native.Nat.{_+_, _*_, _≤_};
+ghost use lib.ListN.{length, take};
+ghost use Rattle.text_numbers.specs.Decimal.{digitsOf};
+ghost use Rattle.line_format.specs.Calls.{over};
+ghost use Rattle.plan_lines.specs.Field.{fieldText};
+ghost use Rattle.plan_rules.specs.Planned.{device};
+ghost use Rattle.plan_rules.specs.Rules.{planRuled};
+ghost use Rattle.naming.specs.Text.{countsText, gapText, gapsText, namedText, mostNamed};
+ghost use Rattle.naming.specs.Putting.{arcsIn, Puts};
+
+// The longest text that there is.
+pub const NAMED_BYTES: usize = 718;
+
+// Two numbers for each gap: enough for any plan.
+const GAP_NUMBERS: usize = 34;
+
+// A line put into a buffer from a place on; the place after it.
+fn put_line(s: Spelled, at: usize, buf: &mut [u8]) -> usize
+    requires { ⌜ (s .len ≤ length (s .bytes)) × (at + s .len ≤ length (now buf)) ⌝ }
+    ensures { λ r. ⌜ Puts at (take (s .len) (s .bytes)) (now (buf .entry)) r (now (buf .exit)) ⌝ }
+{
+    let n = s.len;
+    let bytes = s.bytes;
+    write_at(&bytes[..n], at, buf);
+    at + n
+}
+
+// A number after its key.
+fn put_number(key: &[u8], n: u64, at: usize, buf: &mut [u8]) -> usize
+    requires { ⌜ (length (now key) ≤ 8) × (at + length (fieldText (now key) (digitsOf n)) ≤ length (now buf)) ⌝ }
+    ensures { λ r. ⌜ Puts at (fieldText (now (key .entry)) (digitsOf n)) (now (buf .entry)) r (now (buf .exit)) ⌝ }
+{
+    put_line(number_line(key, n), at, buf)
+}
+
+// A gap: its first rank, and how many ranks it has.
+fn put_gap(first: u64, many: u64, at: usize, buf: &mut [u8]) -> usize
+    requires { ⌜ at + length (gapText (record { first = first; many = many })) ≤ length (now buf) ⌝ }
+    ensures { λ r. ⌜ Puts at (gapText (record { first = first; many = many })) (now (buf .entry)) r (now (buf .exit)) ⌝ }
+{
+    put_line(pair_line(b"gap=", first, many), at, buf)
+}
+
+// A line for each of so many gaps, put into a buffer from a place on; the place after them.
+fn put_gap_lines(gaps: &[u64], many: u64, from: usize, buf: &mut [u8]) -> usize
+    requires { ⌜ (2 * many ≤ length (now gaps)) × (from + length (gapsText (arcsIn many (now gaps))) ≤ length (now buf)) ⌝ }
+    ensures { λ r. ⌜ Puts from (gapsText (arcsIn many (now (gaps .entry)))) (now (buf .entry)) r (now (buf .exit)) ⌝ }
+{
+    let mut at = from;
+    let mut k: usize = 0;
+    let mut left = many;
+    while 0 < left {
+        at = put_gap(gaps[k], gaps[k + 1], at, buf);
+        k += 2;
+        left -= 1;
+    }
+    at
+}
+
+// The three counts, at the front of a buffer; the place after them.
+fn put_counts(named: u64, of: u64, gaps: u64, buf: &mut [u8]) -> usize
+    requires { ⌜ length (countsText named of gaps) ≤ length (now buf) ⌝ }
+    ensures { λ r. ⌜ Puts 0 (countsText named of gaps) (now (buf .entry)) r (now (buf .exit)) ⌝ }
+{
+    let first = put_number(b"named=", named, 0, buf);
+    let second = put_number(b"of=", of, first, buf);
+    put_number(b"gaps=", gaps, second, buf)
+}
+
+// What a plan names, written at the front of a buffer; how many bytes that takes.
+pub fn named_text(plan: Plan, buf: &mut [u8]) -> usize
+    requires { ⌜ (planRuled device plan ≡ true) × (mostNamed ≤ length (now buf)) ⌝ }
+    ensures answer { λ r. ⌜ r ≡ length (namedText plan) ⌝ }
+    ensures bytes { λ _. ⌜ now (buf .exit) ≡ over (namedText plan) (now (buf .entry)) ⌝ }
+{
+    let tally = count_named(plan);
+    let of = count_of(plan.ports);
+    let mut gaps = [0u64; GAP_NUMBERS];
+    put_gaps(plan, &mut gaps);
+    let at = put_counts(tally.named, of, tally.gaps, buf);
+    put_gap_lines(&gaps, tally.gaps, at, buf)
+}
