@@ -8,7 +8,6 @@ use Prim.Native.Nat.{ℕ, _+_, _*_, _≤_, _<_}
 use native.Mathlib.Omega.{arith}
 use lib.ListN.{length, length-append}
 use Rattle.listing.specs.Count.{count}
-use Rattle.listing.specs.Limits.{mostLegs}
 use Rattle.listing.proofs.Limits.{count-most}
 use Rattle.listing.proofs.Numbers.{either, below?}
 use Rattle.promise.specs.Derangements.{derangements}
@@ -25,6 +24,7 @@ use Rattle.plan_rules.specs.Rules.{legsOf, Ruled}
 use Rattle.plan_rules.specs.declared.Plan.{Plan}
 use Rattle.plan_arcs.specs.Arcs.{gapsIn}
 use Rattle.plan_arcs.proofs.Arcs.{fits-ruled}
+use Rattle.plan_arcs.proofs.Found.{left-few}
 use Rattle.plans.proofs.Longest.{places, field-length}
 use Rattle.naming.specs.Text.{namedKey, ofKey, gapsKey, gapKey, countsText, gapText, gapsText, namedText, mostNamed}
 
@@ -97,10 +97,6 @@ module _ (p : Plan) (R : Ruled device p) where
   right : Right (derangements (p .ports)) (legsOf p) many (gapsIn p)
   right = right-on (p .ports) (R .fits .fewPorts) (legsOf p) (R .fits .fewLegs) (fits-ruled (count (p .ports)) (legsOf p) (R .fits .each))
 
-  -- it leaves at most 16 gaps
-  pub gaps-most : length (gapsIn p) ≤ mostLegs
-  gaps-most = omega (arith, right .few, R .fits .manyLegs)
-
   -- named ranks and gap ranks are those of the circuit, which are fewer than 9 times the lowest number of 18 digits
   whole : many + total (gapsIn p) ≡ count (p .ports)
   unfolding derangements
@@ -128,9 +124,9 @@ module _ (p : Plan) (R : Ruled device p) where
         text-parts,
         places-weigh many (omega (arith, whole, size)),
         digits-at-most 17 (count (p .ports)) (omega (arith, size)),
-        digits-at-most 1 (length (gapsIn p)) (omega (arith, gaps-most)),
+        digits-at-most 1 (length (gapsIn p)) (omega (arith, left-few p R)),
         gaps-weigh (gapsIn p) gaps-short,
-        gaps-most,
+        left-few p R,
         whole,
         size,
       )

@@ -18,11 +18,12 @@ use Rattle.naming.specs.Text.{countsText, gapsText, namedText, mostNamed
 use Rattle.naming.specs.Putting.{arcsIn, Puts}
 use Rattle.naming.proofs.Putting.{Going, going-first, going-room, going-on, puts-front}
 use Rattle.naming.proofs.Gaps.{arcs-back}
-use Rattle.naming.proofs.Longest.{gaps-most, text-fits}
+use Rattle.plan_arcs.proofs.Found.{left-few}
+use Rattle.naming.proofs.Longest.{text-fits}
 
 -- the numbers of the gaps fit 34 places
 pub numbers-fit : (p : Plan) → Ruled device p → length (numbers (gapsIn p)) ≤ 34
-numbers-fit p R = omega (arith, length-numbers (gapsIn p), gaps-most p R)
+numbers-fit p R = omega (arith, length-numbers (gapsIn p), left-few p R)
 
 -- a plan within the rules, what was counted of it, its gaps as numbers at the front of u, and a buffer that is long enough
 pub record Known (p : Plan) (t : Tally) (of : ℕ) (u old : List ℕ) : Type 0 where

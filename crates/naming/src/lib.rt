@@ -2,6 +2,7 @@
 use line_sentence::write_at;
 use line_writer::order_lines::Spelled;
 use pattern_steps::counts::count_of;
+use plan_arcs::gaps::GAP_NUMBERS;
 use plan_arcs::gaps::count_named;
 use plan_arcs::gaps::put_gaps;
 use plan_rules::Plan;
@@ -21,9 +22,6 @@ ghost use Rattle.naming.specs.Putting.{arcsIn, Puts};
 
 // The longest text that there is.
 pub const NAMED_BYTES: usize = 718;
-
-// Two numbers for each gap: enough for any plan.
-const GAP_NUMBERS: usize = 34;
 
 // A line put into a buffer from a place on; the place after it.
 fn put_line(s: Spelled, at: usize, buf: &mut [u8]) -> usize

@@ -3,7 +3,7 @@
 use mathlib.Core.Path.{sym, ap, _∙_}
 use borrow.Author.Needs.{needs}
 use Rattle.words.specs.Meaning.{outcomeTold}
-use Rattle.asking.proofs.Plans.{read-ruled}
+use Rattle.plans.proofs.Read.{read-ruled}
 use Rattle.named.proofs.print_plan.Statement.{statement}
 use Rattle.named.proofs.print_plan.Tie as tie
 
