@@ -3,3 +3,4 @@ pub mod Inverse
 pub mod Written
 pub mod Longest
 pub mod Cases
+pub mod Buffer

@@ -11,7 +11,7 @@ use Rattle.promise_arcs.specs.Gaps.{Arc}
 use Rattle.promise_arcs.specs.Named.{numbers}
 use Rattle.line_writer.specs.Answers.{Spells}
 use Rattle.line_writer.specs.declared.order_lines.Spelled.{Spelled}
-use Rattle.showing.specs.Facts.{pairText}
+use Rattle.plan_facts.specs.Facts.{pairText}
 use Rattle.naming.specs.Text.{gapKey, gapText, gapsText}
 use Rattle.naming.specs.Putting.{arcsIn, Puts}
 use Rattle.naming.proofs.Putting.{Going, going-room, going-on, going-over}

@@ -11,7 +11,7 @@ use Rattle.line_format.specs.Calls.{over}
 use Rattle.line_writer.specs.Answers.{Spells}
 use Rattle.line_writer.specs.declared.order_lines.Spelled.{Spelled}
 use Rattle.line_writer.proofs.Spelling.{spells-within}
-use Rattle.printing.proofs.Buffer.{put, put-front, put-rest, put-length}
+use Rattle.line_format.proofs.Buffer.{put, put-front, put-rest, put-length}
 use Rattle.naming.specs.Putting.{Puts}
 
 -- ---- one after the other

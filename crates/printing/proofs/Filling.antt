@@ -23,7 +23,7 @@ use Rattle.printing.specs.declared.Lined.{Lined}
 use Rattle.printing.specs.declared.Printed.{Printed}
 use Rattle.printing.specs.declared.Rehearsal.{Rehearsal}
 use Rattle.printing.proofs.Lines.{some-byte, goes-on, stops, text-fits, told-within}
-use Rattle.printing.proofs.Buffer.{put, put-front, put-rest, put-length, rest-first, put-over, front-length}
+use Rattle.line_format.proofs.Buffer.{put, put-front, put-rest, put-length, rest-first, put-over, front-length}
 
 -- the first buffer b₀ and state s₀, and now the buffer b with its lines up to a place, and the state s
 pub record Filling (s₀ : State) (b₀ : List ℕ) (s : State) (b : List ℕ) (at : ℕ) : Type 0 where

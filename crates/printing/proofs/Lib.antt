@@ -1,6 +1,5 @@
 pub mod Ran
 pub mod Lines
-pub mod Buffer
 pub mod Parts
 pub mod Filling
 pub mod Progress

@@ -2,4 +2,3 @@ pub mod Places
 pub mod Rehearsals
 pub mod Answered
 pub mod Ruled
-pub mod Spelled

@@ -1,3 +1,2 @@
-// What is shown of a plan: where one of its marks stands, and the lines of facts that say it.
-pub mod facts;
+// What is shown of a plan: where one of its marks stands.
 pub mod marks;

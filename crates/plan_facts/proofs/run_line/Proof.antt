@@ -1,9 +1,9 @@
--- `showing::facts::run_line` spells the magnitude after a key with `-` where the run goes back, and without it where it goes on.
+-- `plan_facts::run_line` spells the magnitude after a key with `-` where the run goes back, and without it where it goes on.
 -- Assumes nothing.
 use borrow.Author.Needs.{needs}
-use Rattle.showing.proofs.Spelled.{run-back, run-on}
-use Rattle.showing.proofs.facts.run_line.Statement.{statement}
-use Rattle.showing.proofs.facts.run_line.Tie as tie
+use Rattle.plan_facts.proofs.Spelled.{run-back, run-on}
+use Rattle.plan_facts.proofs.run_line.Statement.{statement}
+use Rattle.plan_facts.proofs.run_line.Tie as tie
 
 returns : tie.Need-returns
 returns c = let i = c .before .before in run-back (i .before .args .run) _ (i .if1 .taken) (c .number-line .ensures)

@@ -1,4 +1,4 @@
--- `showing::facts::pair_line` spells the key and the first number, then a comma and the second, then the newline. A number of 64 bits has at most 20 digits.
+-- `plan_facts::pair_line` spells the key and the first number, then a comma and the second, then the newline. A number of 64 bits has at most 20 digits.
 -- Assumes nothing.
 use Prim.Native.Nat.{_+_, _≤_}
 use native.Mathlib.Omega.{arith}
@@ -9,9 +9,9 @@ use Rattle.text_numbers.specs.Decimal.{digitsOf}
 use Rattle.text_numbers.proofs.Lengths.{digits-64}
 use Rattle.text_keys.specs.Parts.{comma}
 use Rattle.line_writer.proofs.Spelling.{spells-length}
-use Rattle.showing.proofs.Spelled.{spells-pair}
-use Rattle.showing.proofs.facts.pair_line.Statement.{statement}
-use Rattle.showing.proofs.facts.pair_line.Tie as tie
+use Rattle.plan_facts.proofs.Spelled.{spells-pair}
+use Rattle.plan_facts.proofs.pair_line.Statement.{statement}
+use Rattle.plan_facts.proofs.pair_line.Tie as tie
 
 -- what is spelled of the first number has at most 25 bytes
 first-short : (c : tie.After-begun) → c .begun .result .len ≤ 25

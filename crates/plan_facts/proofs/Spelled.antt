@@ -11,7 +11,7 @@ use Rattle.plan_lines.specs.Field.{fieldText}
 use Rattle.line_writer.specs.Answers.{Spells, Grown}
 use Rattle.line_writer.specs.declared.order_lines.Spelled.{Spelled}
 use Rattle.line_writer.proofs.Spelling.{spells-more}
-use Rattle.showing.specs.Facts.{pairText, runKey, runText}
+use Rattle.plan_facts.specs.Facts.{pairText, runKey, runText}
 
 -- a key and a number, and the newline
 pub spells-field : (s r : Spelled) (key : List ℕ) (n : ℕ) → Spells s (key ++ digitsOf n) → Grown s (newline ∷ []) r → Spells r (fieldText key (digitsOf n))

@@ -11,7 +11,7 @@ ghost use lib.ListN.{length};
 ghost use Rattle.text_numbers.specs.Decimal.{digitsOf};
 ghost use Rattle.plan_lines.specs.Field.{fieldText};
 ghost use Rattle.line_writer.specs.Answers.{Spells};
-ghost use Rattle.showing.specs.Facts.{pairText, cordText, runText};
+ghost use Rattle.plan_facts.specs.Facts.{pairText, cordText, runText};
 
 // Two numbers after their key, a comma between them.
 pub fn pair_line(key: &[u8], a: u64, b: u64) -> Spelled

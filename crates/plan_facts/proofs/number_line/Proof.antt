@@ -1,12 +1,12 @@
--- `showing::facts::number_line` spells the key and the number, which has at most 20 digits, and the newline.
+-- `plan_facts::number_line` spells the key and the number, which has at most 20 digits, and the newline.
 -- Assumes nothing.
 use native.Mathlib.Omega.{arith}
 use borrow.Author.Needs.{needs}
 use Rattle.line_writer.proofs.Spelling.{spells-length}
 use Rattle.text_numbers.proofs.Lengths.{digits-64}
-use Rattle.showing.proofs.Spelled.{spells-field}
-use Rattle.showing.proofs.facts.number_line.Statement.{statement}
-use Rattle.showing.proofs.facts.number_line.Tie as tie
+use Rattle.plan_facts.proofs.Spelled.{spells-field}
+use Rattle.plan_facts.proofs.number_line.Statement.{statement}
+use Rattle.plan_facts.proofs.number_line.Tie as tie
 
 and-part-requires : tie.Need-and-part-requires
 and-part-requires c κs =

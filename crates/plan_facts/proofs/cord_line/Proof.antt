@@ -1,9 +1,9 @@
--- `showing::facts::cord_line` spells the jack first and then the port.
+-- `plan_facts::cord_line` spells the jack first and then the port.
 -- Assumes nothing.
 use borrow.Author.Needs.{needs}
-use Rattle.showing.specs.Facts.{cordText}
-use Rattle.showing.proofs.facts.cord_line.Statement.{statement}
-use Rattle.showing.proofs.facts.cord_line.Tie as tie
+use Rattle.plan_facts.specs.Facts.{cordText}
+use Rattle.plan_facts.proofs.cord_line.Statement.{statement}
+use Rattle.plan_facts.proofs.cord_line.Tie as tie
 
 returns : tie.Need-returns
 unfolding cordText
