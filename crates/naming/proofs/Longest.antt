@@ -2,6 +2,7 @@
 -- named and those of the gaps add up to the circuit's, so that at most 8 of these 17 numbers have as many as 18.
 -- Assumes nothing.
 use mathlib.Core.Path.{_≡_, refl}
+use mathlib.Core.Bool.{true}
 use mathlib.Core.Logic.{inl, inr}
 use mathlib.Core.List.{List, [], _∷_, _++_}
 use Prim.Native.Nat.{ℕ, _+_, _*_, _≤_, _<_}
@@ -20,8 +21,9 @@ use Rattle.text_numbers.proofs.Lengths.{digits-at-most}
 use Rattle.text_keys.specs.Parts.{comma}
 use Rattle.plan_lines.specs.Field.{fieldText}
 use Rattle.plan_rules.specs.Planned.{device}
-use Rattle.plan_rules.specs.Rules.{legsOf, Ruled}
+use Rattle.plan_rules.specs.Rules.{legsOf, Ruled, planRuled}
 use Rattle.plan_rules.specs.declared.Plan.{Plan}
+use Rattle.plan_rules.proofs.Rules.{ruled}
 use Rattle.plan_arcs.specs.Arcs.{gapsIn}
 use Rattle.plan_arcs.proofs.Arcs.{fits-ruled}
 use Rattle.plan_arcs.proofs.Found.{left-few}
@@ -130,3 +132,8 @@ module _ (p : Plan) (R : Ruled device p) where
         whole,
         size,
       )
+
+-- and so has what is written of a plan in its places
+pub written-fits : (p : Plan) → length (p .starts) ≡ mostLegs → length (p .runs) ≡ mostLegs → planRuled device p ≡ true
+    → (n : ℕ) → n ≡ length (namedText p) → n ≤ mostNamed
+written-fits p ls lr e n f = omega (arith, text-fits p (ruled device p ls lr e))

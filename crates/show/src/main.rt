@@ -1,5 +1,6 @@
 // The facts of a question, for who draws them: standard input is a pattern, a mark of a plan, or a whole plan, and the facts are lines of key=value. Of a mark
-// they are the cords of its pattern, and the orders from its own line to the next mark's or the end's; of a plan its legs, each with its first and last mark.
+// they are the cords of its pattern, and the orders from its own line to the next mark's or the end's; of a plan its legs, each with its first and last mark,
+// and what it names.
 use asking::ask;
 use campaign::Answer;
 use campaign::Campaign;
@@ -14,6 +15,8 @@ use line_writer::answers::Written;
 use line_writer::order_lines::LONGEST_LINE;
 use line_writer::order_lines::Spelled;
 use line_writer::order_lines::write_line;
+use naming::NAMED_BYTES;
+use naming::named_text;
 use pattern_carry::panels::port_at;
 use pattern_steps::counts::count_of;
 use plan_facts::cord_line;
@@ -250,6 +253,15 @@ fn put_legs(plan: Plan) -> bool
     true
 }
 
+// What a plan names, and the gaps that it leaves.
+fn put_named(plan: Plan) -> bool
+    requires { ⌜ planRuled device plan ≡ true ⌝ }
+{
+    let mut buf = [0u8; NAMED_BYTES];
+    let n = named_text(plan, &mut buf);
+    put(&buf[..n])
+}
+
 // The facts of a whole plan.
 fn put_plan(plan: Plan) -> bool
     requires { ⌜ planRuled device plan ≡ true ⌝ }
@@ -257,7 +269,9 @@ fn put_plan(plan: Plan) -> bool
     if put_ports(plan.ports) {
         if put_number(b"legs=", plan.legs as u64) {
             if put_legs(plan) {
-                return put_line(Line::End(marks_before(plan, plan.legs)));
+                if put_line(Line::End(marks_before(plan, plan.legs))) {
+                    return put_named(plan);
+                }
             }
         }
     }

@@ -1,23 +1,16 @@
--- `named::print_named`: no text is longer than its buffer.
+-- `named::print_named`: what is written lies within its buffer.
 -- Assumes nothing.
 use mathlib.Core.Path.{sym}
 use Prim.Native.Nat.{_≤_}
-use native.Mathlib.Omega.{arith}
 use lib.Seq.{length-take-le}
 use borrow.Author.Needs.{needs}
-use Rattle.plan_rules.specs.Planned.{device}
-use Rattle.plan_rules.proofs.Rules.{ruled}
 use Rattle.naming.specs.Text.{mostNamed}
-use Rattle.naming.proofs.Longest.{text-fits}
+use Rattle.naming.proofs.Longest.{written-fits}
 use Rattle.named.proofs.print_named.Statement.{statement}
 use Rattle.named.proofs.print_named.Tie as tie
 
--- what is written has at most as many bytes
 few : (c : tie.After-named-text) → c .named-text .result ≤ mostNamed
-few c =
-    let s = c .before .before in
-    let R = ruled device (s .args .plan) (search needs) (search needs) (s .pre) in
-    omega (arith, c .named-text .ensures .0, text-fits (s .args .plan) R)
+few c = let s = c .before .before in written-fits (s .args .plan) (search needs) (search needs) (s .pre) (c .named-text .result) (c .named-text .ensures .0)
 
 array-share-prefix-buf : tie.Need-array-share-prefix-buf
 array-share-prefix-buf c = let h = few (c .before .before) in search needs
