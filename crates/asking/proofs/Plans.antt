@@ -38,7 +38,7 @@ marked-refused m t k s e = refused-on (readPlanOf t) (λ p. tt) (markOf m) k s e
 
 module _ (t : List ℕ) (plan : Plan) (ok : accepted tt ≡ judged (readPlanOf t)) (e : plan ≡ heldOf mostLegs (readPlanOf t)) where
   -- the plan that it is
-  is-plan : (p : Planned) × (readPlanOf t ≡ accepted p)
+  abbrev is-plan : (p : Planned) × (readPlanOf t ≡ accepted p)
   is-plan = read-plan-is t ok
 
   -- its marks are those of its places

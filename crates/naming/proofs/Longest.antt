@@ -9,6 +9,7 @@ use Prim.Native.Nat.{ℕ, _+_, _*_, _≤_, _<_}
 use native.Mathlib.Omega.{arith}
 use lib.ListN.{length, length-append}
 use Rattle.listing.specs.Count.{count}
+use Rattle.listing.specs.Limits.{mostLegs}
 use Rattle.listing.proofs.Limits.{count-most}
 use Rattle.listing.proofs.Numbers.{either, below?}
 use Rattle.promise.specs.Derangements.{derangements}
