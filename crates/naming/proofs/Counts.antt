@@ -12,6 +12,7 @@ use Rattle.naming.specs.Putting.{Puts}
 use Rattle.naming.proofs.Putting.{Going, going-first, going-room, going-on}
 
 module _ (named of gaps : ℕ) (old : List ℕ) (room : length (countsText named of gaps) ≤ length old) where
+  -- their lines
   abbrev a : List ℕ
   a = fieldText namedKey (digitsOf named)
 
@@ -21,6 +22,7 @@ module _ (named of gaps : ℕ) (old : List ℕ) (room : length (countsText named
   abbrev c : List ℕ
   c = fieldText gapsKey (digitsOf gaps)
 
+  -- what is left of them
   abbrev Left : ℕ → List ℕ → List ℕ → Type 0
   Left at rest buf = Going 0 (countsText named of gaps) old at rest buf
 

@@ -1,7 +1,7 @@
--- A gap's line (`spells-gap`). Gaps in numbers: those that were written at the front of a slice are read back (`arcs-back`). Then the loop that puts a line for each (`gap-room`, `gap-on`,
--- `gaps-over`).
+-- A gap's line (`spells-gap`); gaps in numbers, which are read back from the front of a slice (`arcs-back`); and the loop that puts a line for each (`gap-room`,
+-- `gap-on`, `gaps-over`).
 -- Assumes nothing.
-use mathlib.Core.Path.{_≡_, refl, sym, ap, _∙_}
+use mathlib.Core.Path.{_≡_, refl, ap, _∙_}
 use mathlib.Core.List.{List, [], _∷_, _++_}
 use Prim.Native.Nat.{ℕ, suc, _+_, _-_, _≤_, _<_}
 use native.Mathlib.Omega.{arith}

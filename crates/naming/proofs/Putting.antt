@@ -17,7 +17,7 @@ use Rattle.naming.specs.Putting.{Puts}
 -- ---- one after the other
 
 -- a buffer keeps its length
-pub puts-length : (at : ℕ) (t buf : List ℕ) (after : ℕ) (left : List ℕ) → Puts at t buf after left → at + length t ≤ length buf → length left ≡ length buf
+puts-length : (at : ℕ) (t buf : List ℕ) (after : ℕ) (left : List ℕ) → Puts at t buf after left → at + length t ≤ length buf → length left ≡ length buf
 puts-length at t buf after left P h = ap length (P .bytes) ∙ put-length at t buf h
 
 -- a text put behind another is both put where the other is
@@ -33,7 +33,7 @@ put-behind at t u buf h =
     ∙ ap (λ x. take at buf ++ x) (sym (append-assoc t u (drop (length u) rest)))
     ∙ ap (λ x. take at buf ++ ((t ++ u) ++ x)) same
 
-pub puts-both : (at : ℕ) (t u buf : List ℕ) (m : ℕ) (mid : List ℕ) (after : ℕ) (left : List ℕ) → at + length t ≤ length buf
+puts-both : (at : ℕ) (t u buf : List ℕ) (m : ℕ) (mid : List ℕ) (after : ℕ) (left : List ℕ) → at + length t ≤ length buf
     → Puts at t buf m mid → Puts m u mid after left → Puts at (t ++ u) buf after left
 puts-both at t u buf m mid after left h P Q = record {
   place = omega (arith, P .place, Q .place, length-append t u);
@@ -41,7 +41,7 @@ puts-both at t u buf m mid after left h P Q = record {
 }
 
 -- no text
-pub puts-none : (at : ℕ) (buf : List ℕ) → Puts at [] buf at buf
+puts-none : (at : ℕ) (buf : List ℕ) → Puts at [] buf at buf
 puts-none at buf = record { place = omega arith; bytes = sym (take-append-drop at buf) }
 
 -- from the front on

@@ -48,6 +48,6 @@ gapsText (A ∷ As) = gapText A ++ gapsText As
 unfoldable pub namedText : Plan → List ℕ
 namedText p = countsText (manyNamed (derangements (p .ports)) (legsOf p)) (count (p .ports)) (length (gapsIn p)) ++ gapsText (gapsIn p)
 
--- NAMED_BYTES: how long the longest is
+-- NAMED_BYTES: no text is longer
 abbrev pub mostNamed : ℕ
 mostNamed = 718

@@ -20,7 +20,7 @@ ghost use Rattle.plan_rules.specs.Rules.{planRuled};
 ghost use Rattle.naming.specs.Text.{countsText, gapText, gapsText, namedText, mostNamed};
 ghost use Rattle.naming.specs.Putting.{arcsIn, Puts};
 
-// The longest text that there is.
+// No text is longer.
 pub const NAMED_BYTES: usize = 718;
 
 // A line put into a buffer from a place on; the place after it.

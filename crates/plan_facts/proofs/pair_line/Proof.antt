@@ -1,6 +1,6 @@
 -- `plan_facts::pair_line` spells the key and the first number, then a comma and the second, then the newline. A number of 64 bits has at most 20 digits.
 -- Assumes nothing.
-use Prim.Native.Nat.{_+_, _≤_}
+use Prim.Native.Nat.{_≤_}
 use native.Mathlib.Omega.{arith}
 use mathlib.Core.List.{[], _∷_}
 use lib.ListN.{length-append}
