@@ -1,6 +1,6 @@
 -- Laws of steps round a circuit.
 -- Assumes nothing.
-use mathlib.Core.Path.{_≡_}
+use mathlib.Core.Path.{_≡_, sym, ap, _∙_}
 use mathlib.Core.Logic.{_⊎_, inl, inr}
 use Prim.Native.Nat.{ℕ, suc, _+_, _-_, _≤_, _<_}
 use native.Mathlib.Omega.{arith}
@@ -78,51 +78,49 @@ ahead-same c a h = either (ahead-cases c a a h) (λ w. omega arith) (λ w. omega
 pub ahead-none : (c a r : ℕ) → a < c → r < c → ahead c a r ≡ 0 → a ≡ r
 ahead-none c a r h k e = either (ahead-cases c a r h) (λ w. omega arith) (λ w. omega arith)
 
+-- one step back undoes one step on
+pub backward-onward : (c a i : ℕ) → a < c → i < c → backward c (onward c a (suc i)) 1 ≡ onward c a i
+backward-onward c a i h k =
+    let e : ℕ = onward c a (suc i) in
+    either (onward-cases c a (suc i))
+    (λ w. either (backward-cases c e 1 (omega arith))
+    (λ x. either (onward-cases c a i) (λ y. omega arith) (λ y. omega arith))
+    (λ x. either (onward-cases c a i) (λ y. omega arith) (λ y. omega arith)))
+    (λ w. either (backward-cases c e 1 (omega arith))
+    (λ x. either (onward-cases c a i) (λ y. omega arith) (λ y. omega arith))
+    (λ x. either (onward-cases c a i) (λ y. omega arith) (λ y. omega arith)))
+
 -- ---- three ranks: from a on to r by way of b
 
--- where b comes first, or is r
-pub ahead-by : (c a b r : ℕ) → a < c → b < c → r < c → ahead c a b ≤ ahead c a r → ahead c a b + ahead c b r ≡ ahead c a r
-ahead-by c a b r ha hb hr l =
+-- as many steps as straight on, or once round more
+ahead-over : (c a b r : ℕ) → a < c → b < c → r < c
+    → (ahead c a b + ahead c b r ≡ ahead c a r) ⊎ (ahead c a b + ahead c b r ≡ ahead c a r + c)
+ahead-over c a b r ha hb hr =
     either (ahead-cases c a b ha)
     (λ w. either (ahead-cases c a r ha)
-    (λ x. either (ahead-cases c b r hb) (λ y. omega arith) (λ y. omega arith))
-    (λ x. either (ahead-cases c b r hb) (λ y. omega arith) (λ y. omega arith)))
+    (λ x. either (ahead-cases c b r hb) (λ y. inl (omega arith)) (λ y. inr (omega arith)))
+    (λ x. either (ahead-cases c b r hb) (λ y. inl (omega arith)) (λ y. inl (omega arith))))
     (λ w. either (ahead-cases c a r ha)
-    (λ x. either (ahead-cases c b r hb) (λ y. omega arith) (λ y. omega arith))
-    (λ x. either (ahead-cases c b r hb) (λ y. omega arith) (λ y. omega arith)))
+    (λ x. either (ahead-cases c b r hb) (λ y. inr (omega arith)) (λ y. inr (omega arith)))
+    (λ x. either (ahead-cases c b r hb) (λ y. inl (omega arith)) (λ y. inr (omega arith))))
 
--- where r comes first: once round
+-- straight on where b comes first, or is r
+pub ahead-by : (c a b r : ℕ) → a < c → b < c → r < c → ahead c a b ≤ ahead c a r → ahead c a b + ahead c b r ≡ ahead c a r
+ahead-by c a b r ha hb hr l = let s = ahead-below c b r hb hr in either (ahead-over c a b r ha hb hr) (λ w. w) (λ w. omega arith)
+
+-- once round where r comes first
 pub ahead-round : (c a b r : ℕ) → a < c → b < c → r < c → ahead c a r < ahead c a b → ahead c a b + ahead c b r ≡ ahead c a r + c
-ahead-round c a b r ha hb hr l =
-    either (ahead-cases c a b ha)
-    (λ w. either (ahead-cases c a r ha)
-    (λ x. either (ahead-cases c b r hb) (λ y. omega arith) (λ y. omega arith))
-    (λ x. either (ahead-cases c b r hb) (λ y. omega arith) (λ y. omega arith)))
-    (λ w. either (ahead-cases c a r ha)
-    (λ x. either (ahead-cases c b r hb) (λ y. omega arith) (λ y. omega arith))
-    (λ x. either (ahead-cases c b r hb) (λ y. omega arith) (λ y. omega arith)))
+ahead-round c a b r ha hb hr l = either (ahead-over c a b r ha hb hr) (λ w. omega arith) (λ w. w)
 
 -- the rank before one that is not a is one step less from a
 pub ahead-before : (c a r : ℕ) → a < c → r < c → 0 < ahead c a r → suc (ahead c a (backward c r 1)) ≡ ahead c a r
 ahead-before c a r ha hr l =
-    let q : ℕ = backward c r 1 in
-    either (ahead-cases c a r ha)
-    (λ w. either (backward-cases c r 1 (omega arith))
-    (λ x. either (ahead-cases c a q ha) (λ y. omega arith) (λ y. omega arith))
-    (λ x. either (ahead-cases c a q ha) (λ y. omega arith) (λ y. omega arith)))
-    (λ w. either (backward-cases c r 1 (omega arith))
-    (λ x. either (ahead-cases c a q ha) (λ y. omega arith) (λ y. omega arith))
-    (λ x. either (ahead-cases c a q ha) (λ y. omega arith) (λ y. omega arith)))
+    let d : ℕ = ahead c a r - 1 in
+    let n : suc d ≡ ahead c a r = omega arith in
+    let k : d < c = omega (arith, ahead-below c a r ha hr) in
+    let at : onward c a (suc d) ≡ r = ap (onward c a) n ∙ onward-ahead c a r ha hr in
+    ap suc (ap (λ q. ahead c a (backward c q 1)) (sym at) ∙ ap (ahead c a) (backward-onward c a d ha k) ∙ ahead-onward c a d ha k) ∙ n
 
 -- an arc's last rank, which is before the rank past it: from its first
-pub ahead-last : (c a i : ℕ) → a < c → i < c → suc (ahead c a (backward c (onward c a (suc i)) 1)) ≡ suc i
-ahead-last c a i ha hi =
-    let e : ℕ = onward c a (suc i) in
-    let q : ℕ = backward c e 1 in
-    either (onward-cases c a (suc i))
-    (λ w. either (backward-cases c e 1 (omega arith))
-    (λ x. either (ahead-cases c a q ha) (λ y. omega arith) (λ y. omega arith))
-    (λ x. either (ahead-cases c a q ha) (λ y. omega arith) (λ y. omega arith)))
-    (λ w. either (backward-cases c e 1 (omega arith))
-    (λ x. either (ahead-cases c a q ha) (λ y. omega arith) (λ y. omega arith))
-    (λ x. either (ahead-cases c a q ha) (λ y. omega arith) (λ y. omega arith)))
+pub ahead-last : (c a i : ℕ) → a < c → i < c → ahead c a (backward c (onward c a (suc i)) 1) ≡ i
+ahead-last c a i ha hi = ap (ahead c a) (backward-onward c a i ha hi) ∙ ahead-onward c a i ha hi

@@ -95,17 +95,12 @@ from-last c s k i hs hk l =
     (λ x. either (ahead-cases c f r hf) (λ y. omega arith) (λ y. omega arith)))
 
 -- and every rank that comes so is one of them
-to-start : (c s k i d r : ℕ) → s < c → k < c → r < c → ahead c (backward c s k) r ≡ d → d + i ≡ k → backward c s i ≡ r
-to-start c s k i d r hs hk hr e q =
+to-start : (c s k i r : ℕ) → s < c → k < c → r < c → ahead c (backward c s k) r + i ≡ k → backward c s i ≡ r
+to-start c s k i r hs hk hr q =
     let f : ℕ = backward c s k in
     let hf : f < c = backward-below c s k hs (omega arith) in
-    either (backward-cases c s k (omega arith))
-    (λ w. either (backward-cases c s i (omega arith))
-    (λ x. either (ahead-cases c f r hf) (λ y. omega arith) (λ y. omega arith))
-    (λ x. either (ahead-cases c f r hf) (λ y. omega arith) (λ y. omega arith)))
-    (λ w. either (backward-cases c s i (omega arith))
-    (λ x. either (ahead-cases c f r hf) (λ y. omega arith) (λ y. omega arith))
-    (λ x. either (ahead-cases c f r hf) (λ y. omega arith) (λ y. omega arith)))
+    let same : ahead c f (backward c s i) ≡ ahead c f r = omega (arith, from-last c s k i hs hk (omega arith)) in
+    sym (onward-ahead c f (backward c s i) hf (backward-below c s i hs (omega arith))) ∙ ap (onward c f) same ∙ onward-ahead c f r hf hr
 
 -- every leg's start and run are below the count
 abbrev pub Ruled : ℕ → List Leg → Type 0
@@ -139,7 +134,7 @@ module _ (F : Family) (circuit : Circuit F) where
       from false l = (ahead c s r, omega arith, stepped-on s (ahead c s r) hs (omega arith) ∙ onward-ahead c s r hs hr)
       from true l =
           let i : ℕ = k - ahead c (backward c s k) r in
-          (i, omega arith, stepped-back s i hs (omega arith) ∙ to-start c s k i (ahead c (backward c s k) r) r hs hk hr refl (omega arith))
+          (i, omega arith, stepped-back s i hs (omega arith) ∙ to-start c s k i r hs hk hr (omega arith))
 
       into : (back : Bool) (i : ℕ) → i ≤ k → stepped F back s i ≡ r → ahead c (firstOf c back s k) r < suc k
       into false i l q = omega (arith, ap (ahead c s) (sym q ∙ stepped-on s i hs (omega arith)), ahead-onward c s i hs (omega arith))

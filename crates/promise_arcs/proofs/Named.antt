@@ -15,7 +15,7 @@ use Rattle.promise.proofs.Derangements.{circuit-on}
 use Rattle.promise_arcs.specs.Gaps.{Arc, total, howMany, Gaps}
 use Rattle.promise_arcs.specs.Named.{named, manyNamed, gapsLeft, numbers, Right}
 use Rattle.promise_arcs.specs.Finding.{arcOf, onSome, gapsBetween}
-use Rattle.promise_arcs.proofs.Only.{by-rank, by-neighbours, gaps-found-so, same-gaps}
+use Rattle.promise_arcs.proofs.Only.{by-rank, by-neighbours, gaps-found-so, only-gaps, same-gaps}
 use Rattle.promise_arcs.proofs.Sums.{named-off, whole-circuit}
 use Rattle.promise_arcs.proofs.Finding.{gaps-found, few-gaps}
 use Rattle.promise_arcs.proofs.Legs.{tells-named, Ruled, plan-arcs, arcs-fit}
@@ -61,7 +61,7 @@ module _ (F : Family) (circuit : Circuit F) (legs : List Leg) (some : 1 ≤ leng
         names = tells-named F legs;
         once = refl;
         gaps = L;
-        only = λ Bs K. sym (gaps-found-so c (named F legs) Bs K) ∙ gaps-found-so c (named F legs) (gapsLeft F legs) L;
+        only = λ Bs K. only-gaps c (named F legs) Bs (gapsLeft F legs) K L;
         either = λ r h.
             either (test (named F legs r))
             (λ e. inl (e, named-off c (named F legs) (gapsLeft F legs) L r h e))
