@@ -1,5 +1,5 @@
 -- What a plan names and leaves, of every family that is a circuit (`plan-right`) and of the list of document 000 (`right-on`): what is told is right, and what is
--- found without a walk is what is told (`found-left`, `found-named`).
+-- found without a walk is what is told (`found-on`, `named-on`).
 -- Assumes nothing.
 use mathlib.Core.Path.{_≡_, refl, sym, ap, subst, _∙_}
 use mathlib.Core.Logic.{inl, inr}
@@ -15,7 +15,7 @@ use Rattle.promise.proofs.Derangements.{circuit-on}
 use Rattle.promise_arcs.specs.Gaps.{Arc, total, howMany, Gaps}
 use Rattle.promise_arcs.specs.Named.{named, manyNamed, gapsLeft, numbers, Right}
 use Rattle.promise_arcs.specs.Finding.{arcOf, onSome, gapsBetween}
-use Rattle.promise_arcs.proofs.Only.{by-rank, by-neighbours, gaps-found-so, only-gaps, same-gaps}
+use Rattle.promise_arcs.proofs.Only.{by-rank, by-neighbours, gaps-found-so, only-gaps, longest, same-gaps}
 use Rattle.promise_arcs.proofs.Sums.{named-off, whole-circuit}
 use Rattle.promise_arcs.proofs.Finding.{gaps-found, few-gaps}
 use Rattle.promise_arcs.proofs.Legs.{tells-named, Ruled, plan-arcs, arcs-fit}
@@ -62,6 +62,7 @@ module _ (F : Family) (circuit : Circuit F) (legs : List Leg) (some : 1 ≤ leng
         once = refl;
         gaps = L;
         only = λ Bs K. only-gaps c (named F legs) Bs (gapsLeft F legs) K L;
+        longest = longest c (named F legs) (gapsLeft F legs) L;
         either = λ r h.
             either (test (named F legs r))
             (λ e. inl (e, named-off c (named F legs) (gapsLeft F legs) L r h e))

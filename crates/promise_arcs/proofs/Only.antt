@@ -169,6 +169,40 @@ module _ (c : ℕ) (named : ℕ → Bool) where
       (λ e. clash (G .after) (ap named (ap (onward c (A .first)) (sym e) ∙ sym next) ∙ H .unnamed s hs y))
       (λ ne. by-rank A B G H s hs (omega (arith, ap (ahead c (A .first)) next, ahead-onward c (A .first) (suc d) a (omega (arith, gap-short A G)))) y)
 
+  -- ---- no arc is longer
+
+  module _ (As : List Arc) (L : Gaps c named As) (X : Arc) (h : X .first < c) (off : (r : ℕ) → r < c → On c X r → named r ≡ false) where
+    -- rank i of an arc of which no rank is named, counted from 0, lies on some gap
+    some-gap : (i : ℕ) → i < c → i < X .many → (A : Arc) × In A As × On c A (onward c (X .first) i)
+    some-gap i k m =
+        let b : onward c (X .first) i < c = onward-below c (X .first) i h (omega arith) in
+        L .all (onward c (X .first) i) b (off (onward c (X .first) i) b (omega (arith, ahead-onward c (X .first) i h k)))
+
+    -- and all of them lie on one
+    one-gap : (i : ℕ) → i < c → i < X .many → (A : Arc) × In A As × On c A (onward c (X .first) 0) × On c A (onward c (X .first) i)
+    one-gap zero k m = let w = some-gap 0 k m in (w .0, w .1, w .2, w .2)
+    one-gap (suc i) k m =
+        let v = one-gap i (omega arith) (omega arith) in
+        let w = some-gap (suc i) k m in
+        let b : onward c (X .first) i < c = onward-below c (X .first) i h (omega arith) in
+        let on : On c (w .0) (onward c (onward c (X .first) i) 1) = rw (onward-more c (X .first) i h (omega arith)) (w .2) in
+        let same : v .0 ≡ w .0 = by-neighbours (v .0) (w .0) (L .each (v .0) (v .1)) (L .each (w .0) (w .1)) (onward c (X .first) i) b (v .3) on in
+        (v .0, v .1, v .2, rw same (w .2))
+
+    on-one : (r : ℕ) → r < c → On c X r → (A : Arc) × In A As × On c A (onward c (X .first) 0) × On c A r
+    on-one r l o =
+        let v = one-gap (ahead c (X .first) r) (ahead-below c (X .first) r h l) o in
+        (v .0, v .1, v .2, rw (onward-ahead c (X .first) r h l) at (v .3))
+
+    -- so an arc of which no rank is named lies on each gap that it has a rank in common with
+    pub longest : (A : Arc) → In A As → (r : ℕ) → r < c → On c X r → On c A r → (q : ℕ) → q < c → On c X q → On c A q
+    longest A i r lr xr ar q lq xq =
+        let v = on-one r lr xr in
+        let w = on-one q lq xq in
+        let first : v .0 ≡ w .0 = by-rank (v .0) (w .0) (L .each (v .0) (v .1)) (L .each (w .0) (w .1)) _ (onward-below c (X .first) 0 h (omega arith)) (v .2) (w .2) in
+        let same : A ≡ w .0 = by-rank A (v .0) (L .each A i) (L .each (v .0) (v .1)) r lr ar (v .3) ∙ first in
+        rw same (w .3)
+
 -- ---- the same gaps for tests that agree
 
 pub same-gaps : (c : ℕ) (a b : ℕ → Bool) (As : List Arc) → ((r : ℕ) → r < c → a r ≡ b r) → Gaps c a As → Gaps c b As

@@ -56,6 +56,9 @@ pub record Right (F : Family) (legs : List Leg) (many : ℕ) (As : List Arc) : T
   pub gaps : Gaps (F .size) (named F legs) As
   -- and no other list of arcs is the gaps
   pub only : (Bs : List Arc) → Gaps (F .size) (named F legs) Bs → Bs ≡ As
+  -- no arc of which no rank is named goes beyond a gap that it has a rank in common with
+  pub longest : (X : Arc) → X .first < F .size → ((r : ℕ) → r < F .size → On (F .size) X r → named F legs r ≡ false)
+      → (A : Arc) → In A As → (r : ℕ) → r < F .size → On (F .size) X r → On (F .size) A r → (q : ℕ) → q < F .size → On (F .size) X q → On (F .size) A q
   -- a rank is named and on no gap, or it is not named and on exactly one
   pub either : (r : ℕ) → r < F .size
       → ((named F legs r ≡ true) × ((A : Arc) → In A As → ¬ On (F .size) A r)) ⊎ ((named F legs r ≡ false) × OnOne (F .size) As r)
