@@ -1,0 +1,155 @@
+-- Courses level by level. A course makes a pattern; up a course each step is that of the next level that is met; down from a rank each level is that of the rank.
+-- Assumes nothing.
+use mathlib.Core.Path.{_≡_, refl, sym, ap, _∙_}
+use mathlib.Core.Logic.{_≢_}
+use mathlib.Core.List.{List, []}
+use Prim.Native.Nat.{ℕ, zero, suc, _≤_, _<_}
+use native.Mathlib.Omega.{arith}
+use lib.Dec.{eqb}
+use lib.ListN.{length, set, length-set}
+use borrow.Author.Tests.{eq-eqb, ne-eqb}
+use Rattle.listing.specs.Numbers.{Among}
+use Rattle.listing.specs.Pattern.{entry, Derangement}
+use Rattle.listing.specs.Count.{count}
+use Rattle.listing.specs.Steps.{byA, byB, stepA, stepB}
+use Rattle.listing.specs.Listing.{listing, at}
+use Rattle.listing.proofs.Numbers.{either, same?}
+use Rattle.listing.proofs.Shorter.{shorter-first, step-derangement}
+use Rattle.listing.proofs.Ranks.{at-derangement}
+use Rattle.listing_course.specs.Course.{built, Course, CourseOf, Traced}
+use Rattle.listing_course.proofs.InPlace.{entry-same, entry-other}
+
+-- ---- a course and its fronts
+
+-- up to a level that is met, a course is a course
+pub course-front : {c : List ℕ} {n k : ℕ} → Course c n → k ≤ n → (1 ≤ k → entry c k ≢ 0) → Course c k
+course-front C h met = record { below = λ j b. C .below j (omega arith); apart = λ j b l. C .apart j b (omega arith); met = met }
+
+-- there is one of no levels
+pub course-none : (c : List ℕ) → Course c 0
+course-none c = record { below = λ k h. absurd (omega arith); apart = λ k b h. absurd (omega arith); met = λ h. absurd (omega arith) }
+
+-- the number of the last level is 1 to n - 1
+last-fits : {c : List ℕ} {m : ℕ} → Course c (suc (suc m)) → Among (suc m) (entry c (suc (suc m)))
+last-fits {c = c} {m = m} C = omega (arith, C .below (suc (suc m)) (omega arith), C .met (omega arith))
+
+-- a level below that is passed over: the one below it is met
+below-front : {c : List ℕ} {m : ℕ} → Course c (suc (suc m)) → entry c (suc m) ≡ 0 → Course c m
+below-front {m = m} C e = course-front C (omega arith) (λ h z. C .apart m h (omega arith) z e)
+
+-- ---- the pattern
+
+-- by B over a level that is passed over, by A over one that is met
+built-B : (c : List ℕ) (m : ℕ) → entry c (suc m) ≡ 0 → built c (suc (suc m)) ≡ stepB (suc (suc m)) (entry c (suc (suc m))) (built c m)
+unfolding built
+built-B c m e = rw (eq-eqb (entry c (suc m)) 0 e)
+
+built-A : (c : List ℕ) (m : ℕ) → entry c (suc m) ≢ 0 → built c (suc (suc m)) ≡ stepA (suc (suc m)) (entry c (suc (suc m))) (built c (suc m))
+unfolding built
+built-A c m d = rw (ne-eqb (entry c (suc m)) 0 d)
+
+-- a course makes a pattern
+pub built-pattern : (c : List ℕ) (n : ℕ) → Course c n → Derangement n (built c n)
+unfolding built
+built-pattern c =
+    shorter-first (λ n. Course c n → Derangement n (built c n))
+    (λ C. record { permutation = record { long = refl; ports = λ j h. absurd (omega arith); apart = λ j k h. absurd (omega arith) }; moved = λ j h. absurd (omega arith) })
+    (λ C. absurd (omega (arith, C .below 1 (omega arith), C .met (omega arith))))
+    (λ m shorter-ones C.
+    either (same? (entry c (suc m)) 0)
+    (λ e. rw (built-B c m e) (step-derangement byB m (entry c (suc (suc m))) (built c m) (last-fits C) (shorter-ones byB (below-front C e))))
+    (λ d.
+    rw (built-A c m d)
+    (step-derangement byA m (entry c (suc (suc m))) (built c (suc m)) (last-fits C) (shorter-ones byA (course-front C (omega arith) (λ h. d))))))
+
+-- ---- up a course
+
+-- the level above one that is met: if it is met, its step is A
+pub up-A : {c : List ℕ} {n m : ℕ} → Course c n → Course c m → m < n → entry c (suc m) ≢ 0
+    → Course c (suc m) × Among m (entry c (suc m)) × (built c (suc m) ≡ stepA (suc m) (entry c (suc m)) (built c m))
+up-A {m = zero} C B h d = absurd (d (omega (arith, C .below 1 (omega arith))))
+up-A {c = c} {m = suc m} C B h d =
+    let D = course-front C h (λ l. d) in
+    (D, last-fits D, built-A c m (B .met (omega arith)))
+
+-- if it is passed over, the one above it is not, and its step is B
+pub up-B : {c : List ℕ} {n m : ℕ} → Course c n → m < n → entry c (suc m) ≡ 0
+    → (suc m < n) × Course c (suc (suc m)) × Among (suc m) (entry c (suc (suc m))) × (built c (suc (suc m)) ≡ stepB (suc (suc m)) (entry c (suc (suc m))) (built c m))
+up-B {c = c} {n = n} {m = m} C h e =
+    let top : suc m ≢ n = λ k. C .met (omega arith) (ap (entry c) (sym k) ∙ e) in
+    let D = course-front {k = suc (suc m)} C (omega arith) (λ l. C .apart (suc m) (omega arith) (omega arith) e) in
+    (omega arith, D, last-fits D, built-B c m e)
+
+-- ---- one level more on a course
+
+on-A : {c : List ℕ} {m : ℕ} → Course c (suc m) → Among (suc m) (entry c (suc (suc m))) → Course c (suc (suc m))
+on-A {c = c} {m = m} C fits =
+    record {
+      below = λ k h. either (same? k (suc (suc m))) (λ e. rw e (omega arith)) (λ d. C .below k (omega arith));
+      apart = λ k h l e. either (same? k (suc m)) (λ k. absurd (C .met (omega arith) (ap (entry c) (sym k) ∙ e))) (λ d. C .apart k h (omega arith) e);
+      met = λ h. omega arith;
+    }
+
+on-B : {c : List ℕ} {m : ℕ} → Course c m → entry c (suc m) ≡ 0 → Among (suc m) (entry c (suc (suc m))) → Course c (suc (suc m))
+on-B {c = c} {m = m} C z fits =
+    record {
+      below = λ k h.
+          either (same? k (suc (suc m))) (λ e. rw e (omega arith))
+          (λ d. either (same? k (suc m)) (λ e. rw (e, z) (omega arith)) (λ f. C .below k (omega arith)));
+      apart = λ k h l e.
+          either (same? k (suc m)) (λ f. rw f (omega arith))
+          (λ d. either (same? k m) (λ f. absurd (C .met (omega arith) (ap (entry c) (sym f) ∙ e))) (λ f. C .apart k h (omega arith) e));
+      met = λ h. omega arith;
+    }
+
+-- ---- down from a rank
+
+-- at first nothing is chosen
+pub traced-start : {n r : ℕ} (c : List ℕ) → r < count n → Traced n r c n r
+traced-start c h = record { most = omega arith; below = h; whole = λ d C same. C }
+
+module _ {n r0 m r i s : ℕ} (c : List ℕ) (T : Traced n r0 c (suc (suc m)) r) (room : n ≤ length c) (fits : Among (suc m) i) where
+  -- the level is that of a step by A
+  pub traced-A : s < count (suc m) → stepA (suc (suc m)) i (at (suc m) s) ≡ at (suc (suc m)) r → Traced n r0 (set c (suc m) i) (suc m) s
+  traced-A b e =
+      let top = T .most in
+      record {
+        most = omega arith;
+        below = b;
+        whole = λ d C same.
+            let i′ : entry d (suc (suc m)) ≡ i = same (suc (suc m)) (omega arith) top ∙ entry-same c (suc m) i (omega arith) in
+            T .whole d
+            (record {
+              course = on-A (C .course) (rw i′ fits);
+              makes = built-A d m (C .course .met (omega arith)) ∙ rw (i′, C .makes) e;
+            })
+            (λ k h l. same k (omega arith) l ∙ entry-other c (suc m) i k (omega arith));
+      }
+
+  -- or by B, which passes the level below over
+  pub traced-B : s < count m → stepB (suc (suc m)) i (at m s) ≡ at (suc (suc m)) r → Traced n r0 (set (set c (suc m) i) m 0) m s
+  traced-B b e =
+      let top = T .most in
+      let c′ = set c (suc m) i in
+      record {
+        most = omega arith;
+        below = b;
+        whole = λ d C same.
+            let i′ : entry d (suc (suc m)) ≡ i =
+            same (suc (suc m)) (omega arith) top ∙ entry-other c′ m 0 (suc (suc m)) (omega arith) ∙ entry-same c (suc m) i (omega arith) in
+            let z : entry d (suc m) ≡ 0 = same (suc m) (omega arith) (omega arith) ∙ entry-same c′ m 0 (simp length-set (omega arith)) in
+            T .whole d
+            (record {
+              course = on-B (C .course) z (rw i′ fits);
+              makes = built-B d m z ∙ rw (i′, C .makes) e;
+            })
+            (λ k h l. same k (omega arith) l ∙ entry-other c′ m 0 k (omega arith) ∙ entry-other c (suc m) i k (omega arith));
+      }
+
+-- with no ports left the course is that of the rank
+pub traced-end : {n r0 m r : ℕ} (c : List ℕ) → Traced n r0 c m r → m ≡ 0 → CourseOf n r0 c
+unfolding built count at listing
+traced-end {r = r} c T e =
+    let b = rw e at (T .below) in
+    let z : r ≡ 0 = omega arith in
+    T .whole c (rw (e, z) (record { course = course-none c; makes = refl })) (λ k h l. refl)
