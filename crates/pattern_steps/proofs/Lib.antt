@@ -1,2 +1,2 @@
-pub mod CountTable
+pub mod LastArm
 pub mod Tabulated
