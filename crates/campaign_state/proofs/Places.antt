@@ -14,6 +14,7 @@ use borrow.Author.Tests.{eq-eqb, ne-eqb}
 use Rattle.listing.specs.Count.{count}
 use Rattle.listing.specs.Listing.{at}
 use Rattle.listing.specs.Limits.{mostPorts, mostLegs, largest64}
+use Rattle.listing.proofs.Ranks.{at-derangement}
 use Rattle.promise.specs.Tests.{same}
 use Rattle.promise.specs.Plan.{legAt, stepped, marks}
 use Rattle.promise.specs.Campaign.{here, rankOf, numberOf, wanted}
@@ -132,15 +133,15 @@ module _ (s : State) (z : Sized s) (I : InPlan s) where
 
   -- the panel has the pattern of the mark exactly if no jack is wrong (t: that pattern, r: its rank, w: the first wrong jack)
   pub same-pattern : (l : Leg) → IsLeg s l → (r : ℕ) (t : List ℕ) (w : ℕ)
-      → r ≡ stepped (derangements (s .plan .ports)) (l .back) (l .start) (s .step) → take (s .plan .ports) t ≡ at (s .plan .ports) r
-      → length t ≡ mostPorts → w ≡ wrongFrom (s .plan .ports) 1 (take (s .plan .ports) (s .panel)) (take (s .plan .ports) t)
-      → eqb w 0 ≡ same (momentOf s .panel) (wanted (settingOf s) (momentOf s))
+      → r ≡ stepped (derangements (s .plan .ports)) (l .back) (l .start) (s .step) → r < count (s .plan .ports) → t ≡ at (s .plan .ports) r
+      → w ≡ wrongFrom (s .plan .ports) 1 (take (s .plan .ports) (s .panel)) t → eqb w 0 ≡ same (momentOf s .panel) (wanted (settingOf s) (momentOf s))
   unfolding derangements
-  same-pattern l e r t w er et lt ew =
+  same-pattern l e r t w er h et ew =
       let n = s .plan .ports in
       let rank : r ≡ rankOf (settingOf s) (momentOf s) = er ∙ ap (λ h. stepped (derangements n) (h .back) (h .start) (s .step)) e in
+      let long : length t ≡ n = ap length et ∙ at-derangement n r h .permutation .long in
       ap (λ x. eqb x 0) ew
-      ∙ sym (same-wrong n (take n (s .panel)) (take n t) (length-take-le n (s .panel) (omega (arith, few-ports, z .panel))) (length-take-le n t (omega (arith, few-ports))))
+      ∙ sym (same-wrong n (take n (s .panel)) t (length-take-le n (s .panel) (omega (arith, few-ports, z .panel))) long)
       ∙ ap (λ q. same (take n (s .panel)) q) (et ∙ ap (at n) rank)
 
   -- the same start, of the leg l in hand

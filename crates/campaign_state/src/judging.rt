@@ -5,7 +5,7 @@ use campaign_way::ToCome;
 use campaign_way::along::rank_along;
 use campaign_way::coming::coming;
 use pattern_carry::panels::first_wrong;
-use pattern_ranks::unranking::pattern_of;
+use pattern_ranks::unranking::put_pattern;
 use plan_rules::leg_at;
 use plan_rules::plan_ruled;
 use words::Leg;
@@ -93,12 +93,11 @@ fn at_pattern(s: State, l: Leg) -> bool
     let plan = s.plan;
     let n = plan.ports;
     let panel = s.panel;
-    first_wrong(
-        n,
-        panel,
-        pattern_of(n, rank_along(n, l.start, l.back, s.step)),
-    )
-        == 0
+    let rank = rank_along(n, l.start, l.back, s.step);
+    let end = n as usize;
+    let mut t = [0u8; LONGEST];
+    put_pattern(rank, &mut t[..end]);
+    first_wrong(n, panel, t) == 0
 }
 
 // Where a state stands, by its panel.

@@ -7,7 +7,7 @@ use pattern_carry::panels::holder;
 use pattern_carry::panels::port_at;
 use pattern_check::checking::check_panel;
 use pattern_moves::neighbours::move_beside;
-use pattern_ranks::unranking::pattern_of;
+use pattern_ranks::unranking::put_pattern;
 use words::Jack;
 use words::Leg;
 use words::Move;
@@ -55,7 +55,11 @@ fn before_first(n: u8, l: Leg, q: [u8; LONGEST]) -> ToCome
     let end = n as usize;
     match check_panel(&q[..end]) {
         Outcome::Refused(_) => ToCome::Astray,
-        Outcome::Accepted => carriage_next(n, q, pattern_of(n, l.start)),
+        Outcome::Accepted => {
+            let mut t = [0u8; LONGEST];
+            put_pattern(l.start, &mut t[..end]);
+            carriage_next(n, q, t)
+        }
     }
 }
 
@@ -123,5 +127,8 @@ pub fn coming(n: u8, l: Leg, k: u64, q: [u8; LONGEST]) -> ToCome
     }
     let back = l.back;
     let r = rank_along(n, l.start, back, k - 1);
-    on_the_way(n, pattern_of(n, r), move_beside(n, back, r), q)
+    let end = n as usize;
+    let mut t = [0u8; LONGEST];
+    put_pattern(r, &mut t[..end]);
+    on_the_way(n, t, move_beside(n, back, r), q)
 }

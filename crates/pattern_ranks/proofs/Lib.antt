@@ -1,2 +1,5 @@
+pub mod Lent
 pub mod Origins
 pub mod Passing
+pub mod Taken
+pub mod Ways

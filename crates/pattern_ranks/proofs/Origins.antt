@@ -18,7 +18,6 @@ use Rattle.listing.proofs.Numbers.{either, below?}
 use Rattle.listing.proofs.Places.{turned-below}
 use Rattle.listing.proofs.Ranks.{perBlock-pos, block-among, at-derangement}
 use Rattle.listing.proofs.Unranks.{unrank-at}
-use Rattle.pattern_steps.specs.Entries.{AtMost}
 use Rattle.pattern_ranks.specs.Levels.{originIn, originOf}
 use Rattle.pattern_ranks.specs.declared.types.Origin.{Origin}
 use Rattle.pattern_ranks.specs.declared.types.Origin.the-variants.{ByA, ByB}
@@ -74,15 +73,15 @@ module _ {n r size : ℕ} (h : 2 ≤ n) (l : r < count n) (e : size ≡ perBlock
 
 -- the step and the shorter rank of an origin make the pattern of rank r
 abbrev pub Makes : ℕ → ℕ → Origin → Type 0
-Makes n r (ByA i s) = (s < count (n - 1)) × (stepA n i (at (n - 1) s) ≡ at n r)
+Makes n r (ByA i s) = Among (n - 1) i × (s < count (n - 1)) × (stepA n i (at (n - 1) s) ≡ at n r)
 Makes n r (ByB i s) = Among (n - 1) i × (s < count (n - 2)) × (stepB n i (at (n - 2) s) ≡ at n r)
 
 -- as `unrank` makes it
-makes-A : (m r i s : ℕ) → r < count (suc (suc m)) → s < count (suc m) → stepA (suc (suc m)) i (unrank (suc m) s) ≡ unrank (suc (suc m)) r
+makes-A : (m r i s : ℕ) → Among (suc m) i → r < count (suc (suc m)) → s < count (suc m) → stepA (suc (suc m)) i (unrank (suc m) s) ≡ unrank (suc (suc m)) r
     → Makes (suc (suc m)) r (ByA i s)
-makes-A m r i s l b e =
+makes-A m r i s fits l b e =
     let a : suc (suc m) - 1 ≡ suc m = omega arith in
-    rw a (b, ap (stepA (suc (suc m)) i) (sym (unrank-at (suc m) s b)) ∙ e ∙ unrank-at (suc (suc m)) r l)
+    rw a (fits, b, ap (stepA (suc (suc m)) i) (sym (unrank-at (suc m) s b)) ∙ e ∙ unrank-at (suc (suc m)) r l)
 
 makes-B : (m r i s : ℕ) → Among (suc m) i → r < count (suc (suc m)) → s < count m → stepB (suc (suc m)) i (unrank m s) ≡ unrank (suc (suc m)) r
     → Makes (suc (suc m)) r (ByB i s)
@@ -103,7 +102,7 @@ makes (suc (suc m)) r h l =
     let u = turned (odd i) size (r % size) in
     let inside : u < size = turned-below (odd i) size (r % size) (mod-lt r (perBlock-pos m r l)) in
     either (below? u (count (suc m)))
-    (λ b. let t = lt-ltb u (count (suc m)) b in rw t (makes-A m r i u l b (rw t)))
+    (λ b. let t = lt-ltb u (count (suc m)) b in rw t (makes-A m r i u (block-among m r l) l b (rw t)))
     (λ b.
     let t = le-ltb u (count (suc m)) b in
     let s = fromEnd (count m) (u - count (suc m)) in
@@ -112,14 +111,3 @@ makes (suc (suc m)) r h l =
 -- the origin of a rank makes its pattern
 pub origin-makes : {n r : ℕ} {o o′ : Origin} → n ≢ 0 → r < count n → o ≡ originOf n r → o ≡ o′ → Makes n r o′
 origin-makes {n = n} {r = r} h l e e′ = subst (Makes n r) (sym e ∙ e′) (makes n r (two-ports h l) l)
-
--- ---- what the recursion asks of the list
-
--- the pattern with no ports is the front of any array
-pub none-at : (n r : ℕ) (t : List ℕ) → n ≡ 0 → r < count n → take n t ≡ at n r
-unfolding count at listing
-none-at n r t e h = let h′ = rw e at h in let z : r ≡ 0 = omega arith in rw (e, z)
-
--- no port of the pattern of a rank is above the number of ports
-pub at-within : {n r m : ℕ} {t : List ℕ} → n ≤ m → r < count n → t ≡ at n r → AtMost m n t
-at-within {n = n} {r = r} l h e k a = rw e (omega (arith, at-derangement n r h .permutation .ports k a))

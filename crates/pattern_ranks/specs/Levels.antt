@@ -1,18 +1,18 @@
 -- One level of the list: from a rank to the step and the shorter rank, and from a pattern to the step and what is passed over.
 -- Assumes nothing.
-use Prim.Native.Nat.{ℕ, suc, _+_, _-_, _/_, _%_, _<_}
+use Prim.Native.Nat.{ℕ, suc, _+_, _-_, _/_, _%_, _≤_, _<_}
 use mathlib.Core.Path.{_≡_}
 use mathlib.Core.Bool.{Bool, cond}
 use mathlib.Core.List.{List}
 use lib.Dec.{ltb}
-use lib.ListN.{take}
+use lib.ListN.{length, take}
 use Rattle.listing.specs.Numbers.{before, odd}
-use Rattle.listing.specs.Pattern.{Derangement}
+use Rattle.listing.specs.Pattern.{entry}
 use Rattle.listing.specs.Count.{count}
-use Rattle.listing.specs.Steps.{Letter, byA, byB}
+use Rattle.listing.specs.Steps.{Letter, byA, byB, shorter, back, letter}
 use Rattle.listing.specs.Rank.{fromEnd, perBlock, turned, rank}
-use Rattle.pattern_steps.specs.declared.steps.Step.{Step}
-use Rattle.pattern_steps.specs.declared.steps.Step.the-variants.{BackA, BackB}
+use Rattle.listing.specs.Limits.{mostPorts, largest64}
+use Rattle.listing_course.specs.InPlace.{Beside}
 use Rattle.pattern_ranks.specs.declared.types.Origin.{Origin}
 use Rattle.pattern_ranks.specs.declared.types.Origin.the-variants.{ByA, ByB}
 use Rattle.pattern_ranks.specs.declared.types.Came.{Came}
@@ -44,15 +44,27 @@ abbrev pub endOf : Came → ℕ
 endOf (Came-ByA i) = i
 endOf (Came-ByB i) = i
 
--- the step back
-abbrev pub backFrom : Came → Step
-backFrom (Came-ByA i) = BackA
-backFrom (Came-ByB i) = BackB
+-- one level taken off the pattern t of n ports: the step that it came by, and in the arrays a and b the shorter pattern, with its inverse
+pub record Peeled (n : ℕ) (t : List ℕ) (c : Came) (a b : List ℕ) : Type 0 where
+  pub came : c ≡ cameOf (letter n t) (entry t n)
+  pub long : length a ≡ mostPorts
+  pub long-back : length b ≡ mostPorts
+  pub shown : take (shorter (letterOf c) n) a ≡ back (letterOf c) n t
+  pub beside : Beside (shorter (letterOf c) n) a b
 
--- one level of the place of p in the list, read forward or backward ('by turns', the paper, 'The list'): a pattern with fewer ports, and the place of p
--- is what is passed over and the place of that pattern in its list, read forward or backward
-pub record LevelOf (forward : Bool) (n : ℕ) (p : List ℕ) (l : Level) : Type 0 where
+-- one level of the place of t in the list, read forward or backward ('by turns', the paper, 'The list'): a pattern with fewer ports, in the arrays a and b, and
+-- the place of t is what is passed over and the place of that pattern in its list, read forward or backward
+pub record LevelOf (forward : Bool) (n : ℕ) (t : List ℕ) (l : Level) (a b : List ℕ) : Type 0 where
   pub fewer : l .ports < n
-  pub pattern : Derangement (l .ports) (take (l .ports) (l .pattern))
-  pub place : turned forward (count n) (rank n p)
-      ≡ l .passed + turned (l .forward) (count (l .ports)) (rank (l .ports) (take (l .ports) (l .pattern)))
+  pub long : length a ≡ mostPorts
+  pub long-back : length b ≡ mostPorts
+  pub beside : Beside (l .ports) a b
+  pub place : turned forward (count n) (rank n t) ≡ l .passed + turned (l .forward) (count (l .ports)) (rank (l .ports) (take (l .ports) a))
+
+-- the arrays have a pattern of n ports and its inverse, and its place in the list, read forward or backward, after so many passed over, fits 64 bits
+pub record Placing (forward : Bool) (n : ℕ) (a b : List ℕ) (passed : ℕ) : Type 0 where
+  pub most : n ≤ mostPorts
+  pub long : length a ≡ mostPorts
+  pub long-back : length b ≡ mostPorts
+  pub beside : Beside n a b
+  pub fits : passed + turned forward (count n) (rank n (take n a)) ≤ largest64

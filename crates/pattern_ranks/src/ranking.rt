@@ -1,40 +1,26 @@
 // The place of a pattern in the list and in the reversed list, level by level.
+use crate::peeling::invert;
+use crate::peeling::peel;
 use crate::types::Came;
 use crate::types::Level;
 use pattern_carry::panels::load;
-use pattern_carry::panels::port_at;
 use pattern_steps::counts::block_size;
 use pattern_steps::counts::count_of;
 use pattern_steps::numbers::is_odd;
-use pattern_steps::steps::Step;
-use pattern_steps::steps::after_step;
-use pattern_steps::steps::ports_after;
 use words::limits::LONGEST;
 ghost use mathlib.Core.Path.{_≡_};
-ghost use mathlib.Core.Bool.{cond};
-ghost use Prim.Native.Nat.{suc, _-_, _≤_};
+ghost use mathlib.Core.Bool.{true, false, cond};
+ghost use Prim.Native.Nat.{suc, _+_, _-_, _≤_};
 ghost use lib.ListN.{length, take};
 ghost use Rattle.listing.specs.Numbers.{Among, before};
-ghost use Rattle.listing.specs.Pattern.{entry, Derangement};
+ghost use Rattle.listing.specs.Pattern.{Derangement};
 ghost use Rattle.listing.specs.Count.{count};
-ghost use Rattle.listing.specs.Steps.{shorter, letter};
+ghost use Rattle.listing.specs.Steps.{shorter};
 ghost use Rattle.listing.specs.Rank.{fromEnd, rank};
 ghost use Rattle.listing.specs.Reading.{other, comesFirst, passed};
 ghost use Rattle.listing.specs.Limits.{mostPorts};
-ghost use Rattle.pattern_ranks.specs.Levels.{letterOf, endOf, cameOf, backFrom, LevelOf};
-
-// The step that p came by: with i the entry at jack n, by B if jack i holds n, else by A.
-pub fn came(p: [u8; LONGEST], n: u8) -> Came
-    requires { ⌜ (n ≤ mostPorts) × Among n (entry (take n p) n) ⌝ }
-    ensures { λ r. ⌜ r ≡ cameOf (letter n (take n p)) (entry (take n p) n) ⌝ }
-{
-    let i = port_at(p, n, n);
-    if port_at(p, n, i) == n {
-        Came::ByB(i)
-    } else {
-        Came::ByA(i)
-    }
-}
+ghost use Rattle.listing_course.specs.InPlace.{Beside};
+ghost use Rattle.pattern_ranks.specs.Levels.{letterOf, endOf, LevelOf, Placing};
 
 // Whether the patterns by a step are the first part of their block, in the list read forward or backward.
 fn comes_first(forward: bool, c: Came) -> bool
@@ -87,67 +73,67 @@ pub fn passed_over(forward: bool, n: u8, c: Came) -> u64
     blocks * block_size(n) + first_part(forward, n, c)
 }
 
-// The step back from a pattern that came by a step.
-fn back_from(c: Came) -> Step
-    ensures { λ r. ⌜ r ≡ backFrom c ⌝ }
+// How many ports the shorter pattern has.
+fn ports_below(c: Came, n: u8) -> u8
+    requires { ⌜ 2 ≤ n ⌝ }
+    ensures { λ r. ⌜ r ≡ shorter (letterOf c) n ⌝ }
 {
     match c {
-        Came::ByA(_) => Step::BackA,
-        Came::ByB(_) => Step::BackB,
+        Came::ByA(_) => n - 1,
+        Came::ByB(_) => n - 2,
     }
 }
 
-// One level of the place of p in the list, read forward or backward.
-fn level(forward: bool, p: [u8; LONGEST], n: u8) -> Level
-    requires { ⌜ (2 ≤ n) × (n ≤ mostPorts) × Derangement n (take n p) ⌝ }
-    ensures { λ r. ⌜ LevelOf forward n (take n p) r ⌝ }
+// One level of the place of the pattern in p, whose inverse is in q, in the list read forward or backward. The shorter pattern is left there.
+fn level(forward: bool, p: &mut [u8; LONGEST], q: &mut [u8; LONGEST], n: u8) -> Level
+    requires { ⌜ (length (now p) ≡ mostPorts) × (length (now q) ≡ mostPorts) × (2 ≤ n) × (n ≤ mostPorts) × Beside n (now p) (now q) ⌝ }
+    ensures { λ r. ⌜ LevelOf forward n (take n (now (p .entry))) r (now (p .exit)) (now (q .exit)) ⌝ }
 {
-    let c = came(p, n);
-    let back = back_from(c);
+    let c = peel(p, q, n);
     Level {
         passed: passed_over(forward, n, c),
         forward: comes_first(forward, c),
-        ports: ports_after(back, n),
-        pattern: after_step(back, p, n),
+        ports: ports_below(c, n),
     }
 }
 
-// The place of p in the list: its rank.
-pub fn place(p: [u8; LONGEST], n: u8) -> u64
-    requires { ⌜ (n ≤ mostPorts) × Derangement n (take n p) ⌝ }
-    ensures { λ r. ⌜ r ≡ rank n (take n p) ⌝ }
+// The place of the pattern in p in the list, which is its rank, after so many that were passed over.
+fn place(p: &mut [u8; LONGEST], q: &mut [u8; LONGEST], n: u8, passed: u64) -> u64
+    requires { ⌜ Placing true n (now p) (now q) passed ⌝ }
+    ensures { λ r. ⌜ r ≡ passed + rank n (take n (now (p .entry))) ⌝ }
 {
     if n == 0 {
-        return 0;
+        return passed;
     }
-    let l = level(true, p, n);
-    let t = l.pattern;
+    let l = level(true, p, q, n);
     if l.forward {
-        return l.passed + place(t, l.ports);
+        return place(p, q, l.ports, passed + l.passed);
     }
-    l.passed + place_back(t, l.ports)
+    place_back(p, q, l.ports, passed + l.passed)
 }
 
-// The place of p in the reversed list.
-pub fn place_back(p: [u8; LONGEST], n: u8) -> u64
-    requires { ⌜ (n ≤ mostPorts) × Derangement n (take n p) ⌝ }
-    ensures { λ r. ⌜ r ≡ fromEnd (count n) (rank n (take n p)) ⌝ }
+// Its place in the reversed list, after so many that were passed over.
+fn place_back(p: &mut [u8; LONGEST], q: &mut [u8; LONGEST], n: u8, passed: u64) -> u64
+    requires { ⌜ Placing false n (now p) (now q) passed ⌝ }
+    ensures { λ r. ⌜ r ≡ passed + fromEnd (count n) (rank n (take n (now (p .entry)))) ⌝ }
 {
     if n == 0 {
-        return 0;
+        return passed;
     }
-    let l = level(false, p, n);
-    let t = l.pattern;
+    let l = level(false, p, q, n);
     if l.forward {
-        return l.passed + place(t, l.ports);
+        return place(p, q, l.ports, passed + l.passed);
     }
-    l.passed + place_back(t, l.ports)
+    place_back(p, q, l.ports, passed + l.passed)
 }
 
-// The rank of a lent pattern.
+// The rank of a lent pattern, on one working copy and its inverse.
 pub fn rank_of(p: &[u8]) -> u64
     requires { ⌜ (length (now p) ≤ mostPorts) × Derangement (length (now p)) (now p) ⌝ }
     ensures { λ r. ⌜ r ≡ rank (length (now (p .entry))) (now (p .entry)) ⌝ }
 {
-    place(load(p), p.len() as u8)
+    let mut copy = load(p);
+    let mut inverse = [0u8; LONGEST];
+    invert(p, &mut inverse);
+    place(&mut copy, &mut inverse, p.len() as u8, 0)
 }

@@ -1,5 +1,4 @@
 // What one level hands on to the next.
-use words::limits::LONGEST;
 
 // The step that makes a pattern, and the rank of the shorter pattern that it is made from.
 pub enum Origin {
@@ -13,10 +12,9 @@ pub enum Came {
     ByB(u8),
 }
 
-// One level of a pattern's place: what is passed over, and the shorter pattern, with its ports and whether its list is read forward.
+// One level of a pattern's place: what is passed over, and of the shorter pattern its ports and whether its list is read forward.
 pub struct Level {
     pub passed: u64,
     pub forward: bool,
     pub ports: u8,
-    pub pattern: [u8; LONGEST],
 }

@@ -1,19 +1,20 @@
-// The pattern of a rank, level by level.
+// The pattern of a rank: first its course, down the levels, then the steps up the course, in the lent buffer.
 use crate::types::Origin;
 use pattern_steps::counts::block_size;
 use pattern_steps::counts::count_of;
 use pattern_steps::numbers::from_end;
 use pattern_steps::numbers::is_odd;
 use pattern_steps::numbers::turned_place;
-use pattern_steps::steps::Step;
-use pattern_steps::steps::after_step;
+use pattern_steps::steps::step_a;
+use pattern_steps::steps::step_b;
 use words::limits::LONGEST;
 ghost use mathlib.Core.Path.{_≡_};
 ghost use Prim.Native.Nat.{_≤_, _<_};
-ghost use lib.ListN.{take};
+ghost use lib.ListN.{length};
 ghost use Rattle.listing.specs.Count.{count};
 ghost use Rattle.listing.specs.Listing.{at};
 ghost use Rattle.listing.specs.Limits.{mostPorts};
+ghost use Rattle.listing_course.specs.Course.{built, Course, CourseOf};
 ghost use Rattle.pattern_ranks.specs.Levels.{originOf};
 
 // The step that makes the pattern of a rank, and the rank of the shorter pattern.
@@ -31,16 +32,56 @@ pub fn origin(n: u8, rank: u64) -> Origin
     }
 }
 
-// The pattern of a rank: the shorter one, and the step that makes it. The pattern with no ports is any array.
-pub fn pattern_of(n: u8, rank: u64) -> [u8; LONGEST]
+// The course of the pattern of a rank, from the last level down.
+fn course_of(n: u8, rank: u64) -> [u8; LONGEST]
     requires { ⌜ (n ≤ mostPorts) × (rank < count n) ⌝ }
-    ensures { λ r. ⌜ take n r ≡ at n rank ⌝ }
+    ensures { λ r. ⌜ CourseOf n rank r ⌝ }
 {
-    if n == 0 {
-        return [0u8; LONGEST];
+    let mut levels = [0u8; LONGEST];
+    let mut m = n;
+    let mut left = rank;
+    while 0 < m {
+        let last = (m - 1) as usize;
+        match origin(m, left) {
+            Origin::ByA(i, s) => {
+                levels[last] = i;
+                left = s;
+                m -= 1;
+            }
+            Origin::ByB(i, s) => {
+                levels[last] = i;
+                levels[last - 1] = 0;
+                left = s;
+                m -= 2;
+            }
+        }
     }
-    match origin(n, rank) {
-        Origin::ByA(i, s) => after_step(Step::A(i), pattern_of(n - 1, s), n),
-        Origin::ByB(i, s) => after_step(Step::B(i), pattern_of(n - 2, s), n),
+    levels
+}
+
+// The pattern of a course fills the lent slice, from the shortest pattern up.
+fn put_course(levels: [u8; LONGEST], out: &mut [u8])
+    requires { ⌜ (length (now out) ≤ mostPorts) × Course levels (length (now out)) ⌝ }
+    ensures { λ _. ⌜ now (out .exit) ≡ built levels (length (now (out .entry))) ⌝ }
+{
+    let n = out.len() as u8;
+    let mut m: u8 = 0;
+    while m < n {
+        let at = m as usize;
+        if levels[at] == 0 {
+            step_b(out, m, levels[at + 1]);
+            m += 2;
+        } else {
+            step_a(out, m, levels[at]);
+            m += 1;
+        }
     }
+}
+
+// The pattern of a rank fills the lent slice, which has a byte for each port.
+pub fn put_pattern(rank: u64, out: &mut [u8])
+    requires { ⌜ (length (now out) ≤ mostPorts) × (rank < count (length (now out))) ⌝ }
+    ensures { λ _. ⌜ now (out .exit) ≡ at (length (now (out .entry))) rank ⌝ }
+{
+    put_course(course_of(out.len() as u8, rank), out);
 }

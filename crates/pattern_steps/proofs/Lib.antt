@@ -1,2 +1,2 @@
 pub mod LastArm
-pub mod Tabulated
+pub mod Stored

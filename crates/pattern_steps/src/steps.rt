@@ -1,106 +1,83 @@
-// The steps A(i) and B(i), and the steps back, from array to array.
+// The steps A(i) and B(i), and the step back from B, in the one buffer that holds the pattern: a pattern of n ports is its first n entries, jack 1 first.
 use crate::numbers::lowered;
 use crate::numbers::raised;
-use crate::numbers::traded;
-use pattern_carry::panels::port_at;
+use pattern_carry::panels::holder;
+use words::Port;
 use words::limits::LONGEST;
 ghost use mathlib.Core.Path.{_≡_};
-ghost use Prim.Native.Nat.{_-_, _≤_};
-ghost use lib.ListN.{take};
-ghost use Rattle.listing.specs.Numbers.{Among};
-ghost use Rattle.listing.specs.Steps.{byStepA, byStepB, byBackA, byBackB};
+ghost use Prim.Native.Nat.{suc, _-_, _≤_};
+ghost use lib.ListN.{length, take};
+ghost use Rattle.listing.specs.Numbers.{Among, raise, lower};
+ghost use Rattle.listing.specs.Pattern.{entry, Derangement};
+ghost use Rattle.listing.specs.Steps.{byStepB, stepA, stepB, unB};
 ghost use Rattle.listing.specs.Limits.{mostPorts};
-ghost use Rattle.pattern_steps.specs.Entries.{AtMost};
-ghost use Rattle.pattern_steps.specs.Steps.{portsBefore, portsAfter, portAfter, afterStep, MayStep};
+ghost use Rattle.pattern_steps.specs.Steps.{LeftFit};
 
-// A step to a pattern of n ports from a shorter one, A(i) or B(i), or the step back.
-pub enum Step {
-    A(u8),
-    B(u8),
-    BackA,
-    BackB,
+// A(i), from the pattern of m ports: m + 1 where it holds i, and i after it.
+pub fn step_a(out: &mut [u8], m: u8, i: u8)
+    requires { ⌜ (suc m ≤ length (now out)) × (suc m ≤ mostPorts) × Derangement m (take m (now out)) × Among m i ⌝ }
+    ensures long { λ _. ⌜ length (now (out .exit)) ≡ length (now (out .entry)) ⌝ }
+    ensures pattern { λ _. ⌜ take (suc m) (now (out .exit)) ≡ stepA (suc m) i (take m (now (out .entry))) ⌝ }
+{
+    let last = m as usize;
+    let jack = holder(&out[..last], Port(i));
+    let at = (jack.0 - 1) as usize;
+    out[at] = m + 1;
+    out[last] = i;
 }
 
-// The port at jack j of the pattern that A(i) makes from t: i at jack n, and n where t holds i.
-fn port_by_a(t: [u8; LONGEST], n: u8, i: u8, j: u8) -> u8
-    requires { ⌜ (n ≤ mostPorts) × Among n j ⌝ }
-    ensures { λ r. ⌜ r ≡ byStepA n i (take (n - 1) t) j ⌝ }
+// The port at jack j of the pattern that B(i) makes from the pattern of m ports in t: i at the last jack, the last port at jack i, and one more to entries of
+// i or more, which stand one jack on from jack i.
+fn port_by_b(t: &[u8], m: u8, i: u8, j: u8) -> u8
+    requires { ⌜ (suc (suc m) ≤ length (now t)) × (suc (suc m) ≤ mostPorts) × Among (suc m) i × Among (suc (suc m)) j × LeftFit m j (now t) ⌝ }
+    ensures { λ r. ⌜ r ≡ byStepB (suc (suc m)) i (now (t .entry)) j ⌝ }
 {
-    if j == n {
-        return i;
-    }
-    traded(i, n, port_at(t, n - 1, j))
-}
-
-// The port at jack j of the pattern that B(i) makes from t: i at jack n, n at jack i, and one more to entries of i or more.
-fn port_by_b(t: [u8; LONGEST], n: u8, i: u8, j: u8) -> u8
-    requires { ⌜ (2 ≤ n) × (n ≤ mostPorts) × Among (n - 1) i × Among n j × AtMost mostPorts (n - 2) (take (n - 2) t) ⌝ }
-    ensures { λ r. ⌜ r ≡ byStepB n i (take (n - 2) t) j ⌝ }
-{
+    let n = m + 2;
     if j == n {
         return i;
     }
     if j == i {
         return n;
     }
-    raised(i, port_at(t, n - 2, lowered(i, j)))
+    let at = (lowered(i, j) - 1) as usize;
+    raised(i, t[at])
 }
 
-// The port at jack j of the pattern from which A made p: the entry at jack n, where p holds n.
-fn port_back_a(p: [u8; LONGEST], n: u8, j: u8) -> u8
-    requires { ⌜ (1 ≤ n) × (n ≤ mostPorts) × Among (n - 1) j ⌝ }
-    ensures { λ r. ⌜ r ≡ byBackA n (take n p) j ⌝ }
+// B(i), from the pattern of m ports, from the last jack down: no jack is written before its port has been taken.
+pub fn step_b(out: &mut [u8], m: u8, i: u8)
+    requires { ⌜ (suc (suc m) ≤ length (now out)) × (suc (suc m) ≤ mostPorts) × Derangement m (take m (now out)) × Among (suc m) i ⌝ }
+    ensures long { λ _. ⌜ length (now (out .exit)) ≡ length (now (out .entry)) ⌝ }
+    ensures pattern { λ _. ⌜ take (suc (suc m)) (now (out .exit)) ≡ stepB (suc (suc m)) i (take m (now (out .entry))) ⌝ }
 {
-    traded(n, port_at(p, n, n), port_at(p, n, j))
-}
-
-// The port at jack j of the pattern from which B made p: with i the entry at jack n, jack i taken out and one less above i.
-fn port_back_b(p: [u8; LONGEST], n: u8, j: u8) -> u8
-    requires { ⌜ (2 ≤ n) × (n ≤ mostPorts) × Among (n - 2) j ⌝ }
-    ensures { λ r. ⌜ r ≡ byBackB n (take n p) j ⌝ }
-{
-    let i = port_at(p, n, n);
-    lowered(i, port_at(p, n, raised(i, j)))
-}
-
-// The port at jack j of the pattern after a step.
-fn port_after(s: Step, p: [u8; LONGEST], n: u8, j: u8) -> u8
-    requires { ⌜ (n ≤ mostPorts) × MayStep s n (take (portsBefore s n) p) × Among (portsAfter s n) j ⌝ }
-    ensures { λ r. ⌜ r ≡ portAfter s n (take (portsBefore s n) p) j ⌝ }
-{
-    match s {
-        Step::A(i) => port_by_a(p, n, i, j),
-        Step::B(i) => port_by_b(p, n, i, j),
-        Step::BackA => port_back_a(p, n, j),
-        Step::BackB => port_back_b(p, n, j),
+    let mut j = m + 2;
+    while 0 < j {
+        let at = (j - 1) as usize;
+        out[at] = port_by_b(out, m, i, j);
+        j -= 1;
     }
 }
 
-// How many ports the pattern after a step has.
-pub fn ports_after(s: Step, n: u8) -> u8
-    requires { ⌜ 2 ≤ n ⌝ }
-    ensures { λ r. ⌜ r ≡ portsAfter s n ⌝ }
+// The port that jack j gets where jack i is taken out: one less above i.
+fn port_back_b(p: &[u8; LONGEST], i: u8, j: u8) -> u8
+    requires { ⌜ (length (now p) ≡ mostPorts) × Among mostPorts (raise i j) × (j ≤ mostPorts) ⌝ }
+    ensures { λ r. ⌜ r ≡ lower i (entry (now (p .entry)) (raise i j)) ⌝ }
 {
-    match s {
-        Step::A(_) => n,
-        Step::B(_) => n,
-        Step::BackA => n - 1,
-        Step::BackB => n - 2,
-    }
+    let at = (raised(i, j) - 1) as usize;
+    lowered(i, p[at])
 }
 
-// The pattern after a step, filled jack by jack.
-pub fn after_step(s: Step, p: [u8; LONGEST], n: u8) -> [u8; LONGEST]
-    requires { ⌜ (2 ≤ n) × (n ≤ mostPorts) × MayStep s n (take (portsBefore s n) p) ⌝ }
-    ensures { λ r. ⌜ take (portsAfter s n) r ≡ afterStep s n (take (portsBefore s n) p) ⌝ }
+// Back from B, of a pattern of n ports or of its inverse, from the first jack on: with i the entry at the last jack, jack i taken out and one less above i.
+pub fn back_b(p: &mut [u8; LONGEST], n: u8)
+    requires { ⌜ (length (now p) ≡ mostPorts) × (2 ≤ n) × (n ≤ mostPorts) ⌝ }
+    ensures long { λ _. ⌜ length (now (p .exit)) ≡ mostPorts ⌝ }
+    ensures pattern { λ _. ⌜ take (n - 2) (now (p .exit)) ≡ unB n (take n (now (p .entry))) ⌝ }
 {
-    let ports = ports_after(s, n);
-    let mut u = [0u8; LONGEST];
+    let last = (n - 1) as usize;
+    let i = p[last];
     let mut j: u8 = 0;
-    while j < ports {
+    while j < n - 2 {
         let at = j as usize;
-        u[at] = port_after(s, p, n, j + 1);
+        p[at] = port_back_b(p, i, j + 1);
         j += 1;
     }
-    u
 }

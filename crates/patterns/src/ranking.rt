@@ -1,9 +1,8 @@
 // Rank from pattern and pattern from rank.
-use pattern_carry::panels::store;
 use pattern_check::checking::check;
 use pattern_check::checking::in_size;
 use pattern_ranks::ranking::rank_of;
-use pattern_ranks::unranking::pattern_of;
+use pattern_ranks::unranking::put_pattern;
 use pattern_steps::counts::count_of;
 use words::Numbered;
 use words::Outcome;
@@ -37,6 +36,6 @@ pub fn unrank(rank: u64, out: &mut [u8]) -> Outcome
     if count_of(n) <= rank {
         return Outcome::Refused(nowhere(Reason::Rank));
     }
-    store(pattern_of(n, rank), out);
+    put_pattern(rank, out);
     Outcome::Accepted
 }

@@ -5,7 +5,7 @@ use mathlib.Core.Bool.{true, false}
 use mathlib.Core.List.{List}
 use Prim.Native.Nat.{ℕ, _≤_, _<_}
 use native.Mathlib.Omega.{arith}
-use lib.ListN.{length, take}
+use lib.ListN.{length}
 use Rattle.listing.specs.Count.{count}
 use Rattle.listing.specs.Listing.{at}
 use Rattle.listing.specs.Limits.{mostPorts, mostLegs}
@@ -60,10 +60,9 @@ module _ (p : Plan) (k : ℕ) (r : MarkPlace) (l : words.Leg) (F : Found p k r l
         e ∙ (λ i. rankAt (derangements (p .ports)) ((F .leg ∙ leg-found (legsOf p) k r (F .place)) i) (step-of (legsOf p) k r (F .place) i))
 
     -- so the rehearsal with its pattern is the one at the mark
-    pub rehearsal-is : (panel q : List ℕ) → panel ≡ padded mostPorts 0 (take (p .ports) q) → take (p .ports) q ≡ at (p .ports) x
+    pub rehearsal-is : (panel : List ℕ) → panel ≡ padded mostPorts 0 (at (p .ports) x)
         → _≡_ {A = Rehearsal} (record { plan = p; panel = panel; leg = r .leg; step = r .step; ended = false }) (rehearsalAt p k)
     unfolding rehearsalAt
-    rehearsal-is panel q f g =
-        let full : panel ≡ padded mostPorts 0 (at (p .ports) (markRank p k)) =
-        f ∙ ap (padded mostPorts 0) (g ∙ ap (at (p .ports)) rank-of-mark) in
+    rehearsal-is panel f =
+        let full : panel ≡ padded mostPorts 0 (at (p .ports) (markRank p k)) = f ∙ ap (λ y. padded mostPorts 0 (at (p .ports) y)) rank-of-mark in
         λ i. record { plan = p; panel = full i; leg = leg-of (legsOf p) k r (F .place) i; step = step-of (legsOf p) k r (F .place) i; ended = false }

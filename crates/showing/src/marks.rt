@@ -1,10 +1,10 @@
 // Where a mark of a plan stands: its leg and its step there, and the rehearsal that is about to hand it out.
 use campaign_way::along::rank_along;
-use pattern_carry::panels::load;
-use pattern_ranks::unranking::pattern_of;
+use pattern_ranks::unranking::put_pattern;
 use plan_rules::Plan;
 use plan_rules::leg_at;
 use printing::Rehearsal;
+use words::limits::LONGEST;
 ghost use mathlib.Core.Path.{_≡_};
 ghost use mathlib.Core.Bool.{true};
 ghost use Prim.Native.Nat.{_<_};
@@ -49,11 +49,12 @@ pub fn rehearsal_at(plan: Plan, k: u64) -> Rehearsal
     let l = leg_at(plan, place.leg);
     let n = plan.ports;
     let rank = rank_along(n, l.start, l.back, place.step);
-    let pattern = pattern_of(n, rank);
     let end = n as usize;
+    let mut panel = [0u8; LONGEST];
+    put_pattern(rank, &mut panel[..end]);
     Rehearsal {
         plan: plan,
-        panel: load(&pattern[..end]),
+        panel: panel,
         leg: place.leg,
         step: place.step,
         ended: false,

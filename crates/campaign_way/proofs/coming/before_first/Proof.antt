@@ -9,6 +9,7 @@ use Rattle.listing.specs.Pattern.{Permutation}
 use Rattle.listing.proofs.Ranks.{at-derangement}
 use Rattle.promise.specs.Carriage.{carriage}
 use Rattle.plan_rules.specs.Rules.{legIs}
+use Rattle.pattern_ranks.proofs.Lent.{front-asked, front-put}
 use Rattle.campaign_way.specs.Coming.{nextOf}
 use Rattle.campaign_way.proofs.Orders.{front-accepted, front-refused, first-astray, first-carried}
 use Rattle.campaign_way.proofs.coming.before_first.Statement.{statement}
@@ -20,11 +21,17 @@ sound c =
     let a = c .before .before .before .before .args in
     front-accepted (a .n) (a .t3) (search needs) (ap outcomeTold (sym (c .enum-told2 .given .1)) ∙ c .before .before .check-panel .ensures)
 
+put-pattern-requires : tie.Need-put-pattern-requires
+put-pattern-requires c κs =
+    let s = c .before .before .before .before .before in
+    front-asked (s .args .n) (s .args .l .start) _ (search needs) (s .pre .1) (s .pre .2)
+
 carriage-next-requires : tie.Need-carriage-next-requires
 carriage-next-requires c κs =
-    let s = c .before .before .before .before .before in
+    let s = c .before .before .before .before .before .before .before in
     let a = s .args in
-    (s .pre .1, sound (c .before), rw (c .pattern-of .ensures) (at-derangement (a .n) (a .l .start) (s .pre .2) .permutation))
+    let wanted = front-put (a .n) (a .l .start) _ _ (search needs) (s .pre .2) (c .before .put-pattern .ensures) in
+    (s .pre .1, sound (c .before .before .before), rw wanted (at-derangement (a .n) (a .l .start) (s .pre .2) .permutation))
 
 returns : tie.Need-returns
 returns c =
@@ -36,10 +43,12 @@ returns c =
 
 returns-2 : tie.Need-returns-2
 returns-2 c =
-    let a = c .before .before .before .before .before .before .args in
+    let p = c .before .before in
+    let s = p .before .before .before .before .before .before in
+    let a = s .args in
     c .carriage-next .ensures
-    ∙ ap (λ t. nextOf (some (carriage (take (a .n) (a .t3)) t))) (c .before .pattern-of .ensures)
-    ∙ ap nextOf (sym (first-carried (a .n) (legIs (a .l)) (take (a .n) (a .t3)) (sound (c .before .before))))
+    ∙ ap (λ t. nextOf (some (carriage (take (a .n) (a .t3)) t))) (front-put (a .n) (a .l .start) _ _ (search needs) (s .pre .2) (p .put-pattern .ensures))
+    ∙ ap nextOf (sym (first-carried (a .n) (legIs (a .l)) (take (a .n) (a .t3)) (sound (p .before .before))))
 
 pub before-first-spec : {M : Type 1} → statement M
 before-first-spec =
@@ -50,7 +59,9 @@ before-first-spec =
     (λ c κs. search needs)
     (λ c. search needs)
     (λ c. search needs)
-    (λ c κs. search needs)
+    (λ c. search needs)
+    (λ c. sym (length-take-le _ _ (search needs)))
+    put-pattern-requires
     carriage-next-requires
     returns
     returns-2)

@@ -2,11 +2,13 @@
 use mathlib.Core.Path.{sym, ap, _∙_}
 use Prim.Native.Nat.{_-_, _<_}
 use lib.ListN.{take}
+use lib.Seq.{length-take-le}
 use borrow.Author.Needs.{needs}
 use Rattle.listing.specs.Count.{count}
 use Rattle.promise.specs.Campaign.{toCome}
 use Rattle.promise.specs.Derangements.{derangements}
 use Rattle.plan_rules.specs.Rules.{legIs}
+use Rattle.pattern_ranks.proofs.Lent.{front-asked, front-put}
 use Rattle.campaign_way.specs.Coming.{nextOf}
 use Rattle.campaign_way.proofs.Walks.{walk-listed}
 use Rattle.campaign_way.proofs.Orders.{beside-form, later-way}
@@ -25,19 +27,30 @@ listed c =
     let a = s .args in
     rw (c .rank-along .ensures) (walk-listed (a .n) (s .pre .0) (a .l .start) (a .l .back) (a .k - 1) (s .pre .2))
 
+put-pattern-requires : tie.Need-put-pattern-requires
+put-pattern-requires c κs =
+    let s = c .before .before .before in
+    front-asked (s .args .n) (c .before .rank-along .result) _ (search needs) (s .pre .1) (listed (c .before))
+
+move-beside-requires : tie.Need-move-beside-requires
+move-beside-requires c κs = let r = c .before .before .before in (r .before .before .pre .0, r .before .before .pre .1, listed r)
+
 on-the-way-requires : tie.Need-on-the-way-requires
 on-the-way-requires c κs =
-    let s = c .before .before .before .before in
+    let r = c .before .before .before .before in
+    let s = r .before .before in
     let a = s .args in
-    (s .pre .1, rw (c .move-beside .ensures) (beside-form (a .n) (s .pre .0) (a .l .back) _ (listed (c .before .before))))
+    (s .pre .1, rw (c .move-beside .ensures) (beside-form (a .n) (s .pre .0) (a .l .back) _ (listed r)))
 
 returns-2 : tie.Need-returns-2
 returns-2 c =
     let v = c .before in
-    let s = v .before .before .before .before in
-    let a = s .args in
-    later-way (a .n) (legIs (a .l)) (a .k) (take (a .n) (a .q)) _ _ _ _ (v .before .before .before .if1 .left) (v .before .before .rank-along .ensures)
-    (v .before .pattern-of .ensures) (v .move-beside .ensures) (c .on-the-way .ensures)
+    let p = v .before .before in
+    let r = p .before .before in
+    let a = r .before .before .args in
+    let pattern = front-put (a .n) (r .rank-along .result) _ _ (search needs) (listed r) (p .put-pattern .ensures) in
+    later-way (a .n) (legIs (a .l)) (a .k) (take (a .n) (a .q)) _ _ _ _ (r .before .if1 .left) (r .rank-along .ensures) pattern (v .move-beside .ensures)
+    (c .on-the-way .ensures)
 
 pub coming-spec : {M : Type 1} → statement M
 coming-spec =
@@ -47,7 +60,9 @@ coming-spec =
     returns
     (λ c. search needs)
     (λ c κs. search needs)
-    (λ c κs. (c .before .before .pre .1, listed c))
-    (λ c κs. (c .before .before .before .pre .0, c .before .before .before .pre .1, listed (c .before)))
+    (λ c. search needs)
+    (λ c. sym (length-take-le _ _ (search needs)))
+    put-pattern-requires
+    move-beside-requires
     on-the-way-requires
     returns-2)

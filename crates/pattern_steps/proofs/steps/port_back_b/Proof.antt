@@ -1,22 +1,27 @@
 -- `pattern_steps::steps::port_back_b` meets its contract: what p has at the raised jack, lowered.
 -- Assumes nothing.
-use Prim.Native.Nat.{_-_}
+use mathlib.Core.Path.{ap, _∙_}
 use native.Mathlib.Omega.{arith}
 use borrow.Author.Needs.{needs}
-use Rattle.listing.proofs.Numbers.{raise-among}
+use Rattle.listing.specs.Numbers.{lower}
+use Rattle.listing.specs.Pattern.{entry}
+use Rattle.pattern_steps.proofs.Stored.{entry-below}
 use Rattle.pattern_steps.proofs.steps.port_back_b.Statement.{statement}
 use Rattle.pattern_steps.proofs.steps.port_back_b.Tie as tie
 
-port-at-requires-2 : tie.Need-port-at-requires-2
-port-at-requires-2 c κs =
-    let a = c .before .before .args in
-    omega (arith, c .raised .ensures, raise-among (a .n - 2) (c .before .port-at .result) (a .j) (omega arith))
-
 returns : tie.Need-returns
 returns c =
-    rw (← c .before .before .before .port-at .ensures, ← c .before .before .raised .ensures, ← c .before .port-at2 .ensures) (c .lowered .ensures)
+    let f = c .before .before in
+    let a = f .before .args in
+    c .lowered .ensures ∙ ap (lower (a .i)) (entry-below (a .p .now) (f .raised .result) (omega (arith, f .raised .ensures)) ∙ ap (entry (a .p .now)) (f .raised .ensures))
 
 pub port-back-b-spec : {M : Type 1} → statement M
 port-back-b-spec =
     tie.close
-    (tie.spec (λ c κs. search needs) (λ c κs. search needs) port-at-requires-2 (λ c κs. search needs) returns)
+    (tie.spec
+    (λ c κs. search needs)
+    (λ c. omega (arith, c .raised .ensures))
+    (λ c. omega (arith, c .raised .ensures))
+    (λ c. omega (arith, c .raised .ensures))
+    (λ c κs. search needs)
+    returns)

@@ -1,52 +1,59 @@
--- `pattern_steps::steps::port_by_b` meets its contract: i at jack n, n at jack i, else what t has at the lowered jack, raised.
+-- `pattern_steps::steps::port_by_b` meets its contract: i at the last jack, the last port at jack i, else what t has at the lowered jack, raised.
 -- Assumes nothing.
-use mathlib.Core.Path.{sym, ap, _∙_}
-use Prim.Native.Nat.{_-_}
-use lib.ListN.{take}
+use mathlib.Core.Path.{_≡_, sym, ap, _∙_}
+use Prim.Native.Nat.{suc, _+_, _≤_}
 use native.Mathlib.Omega.{arith}
 use borrow.Author.Needs.{needs}
-use Rattle.listing.specs.Numbers.{raise}
+use Rattle.listing.specs.Numbers.{Among, raise, lower}
 use Rattle.listing.specs.Pattern.{entry}
-use Rattle.listing.proofs.Numbers.{is-same, is-other, lower-among}
+use Rattle.listing.proofs.Numbers.{either, is-same, is-other, lower-among, lower-cases}
+use Rattle.pattern_steps.proofs.Stored.{entry-below}
 use Rattle.pattern_steps.proofs.steps.port_by_b.Statement.{statement}
 use Rattle.pattern_steps.proofs.steps.port_by_b.Tie as tie
 
+-- the jack that the port comes from is one of m, and none above j
+from : (c : tie.After-lowered) → let s = c .before .before .before .before in Among (s .args .m) (c .lowered .result) × (c .lowered .result ≤ s .args .j)
+from c =
+    let s = c .before .before .before .before in
+    let a = s .args in
+    let low : lower (a .i) (a .j) ≤ a .j = either (lower-cases (a .i) (a .j)) (λ d. omega arith) (λ d. omega arith) in
+    let among = lower-among (a .m) (a .i) (a .j) (s .pre .2) (omega arith) (c .before .if2 .left) in
+    rw (c .lowered .ensures) (among, low)
+
 returns : tie.Need-returns
-returns c = let a = c .before .args in sym (is-same (a .j) (a .n) (a .i) _ (c .if1 .taken))
+returns c = let a = c .before .before .args in sym (is-same (a .j) _ (a .i) _ (omega arith))
 
 returns-2 : tie.Need-returns-2
 returns-2 c =
-    let a = c .before .before .args in
-    sym (is-other (a .j) (a .n) (a .i) _ (c .before .if1 .left) ∙ is-same (a .j) (a .i) (a .n) _ (c .if2 .taken))
-
-port-at-requires : tie.Need-port-at-requires
-port-at-requires c κs =
-    let s = c .before .before .before in
-    let a = s .args in
-    (omega arith, rw (c .lowered .ensures) (lower-among (a .n - 2) (a .i) (a .j) (omega arith) (omega arith) (c .before .if2 .left)))
+    let a = c .before .before .before .args in
+    let n : a .m + 2 ≡ suc (suc (a .m)) = omega arith in
+    n ∙ sym (is-other (a .j) _ (a .i) _ (omega arith) ∙ is-same (a .j) (a .i) _ _ (c .if2 .taken))
 
 raised-requires : tie.Need-raised-requires
 raised-requires c κs =
-    let s = c .before .before .before .before in
-    let a = s .args in
-    let d = c .before .before .if2 .left in
-    rw (c .port-at .ensures, c .before .lowered .ensures) (s .pre .4 _ (lower-among (a .n - 2) (a .i) (a .j) (omega arith) (omega arith) d))
+    let l = c .before in
+    let s = l .before .before .before .before in
+    let f = from l in
+    rw (entry-below (s .args .t .now) (l .lowered .result) (f .0 .0)) (s .pre .4 (l .lowered .result) (f .1) (f .0 .1))
 
 returns-3 : tie.Need-returns-3
 returns-3 c =
-    let e = c .before .before .before .before in
-    let a = e .before .args in
-    c .raised .ensures ∙ ap (raise (a .i)) (c .before .port-at .ensures ∙ ap (entry (take (a .n - 2) (a .t))) (c .before .before .lowered .ensures))
-    ∙ sym (is-other (a .j) (a .n) (a .i) _ (e .if1 .left) ∙ is-other (a .j) (a .i) (a .n) _ (c .before .before .before .if2 .left))
+    let l = c .before .before in
+    let s = l .before .before .before .before in
+    let a = s .args in
+    c .raised .ensures ∙ ap (raise (a .i)) (entry-below (a .t .now) (l .lowered .result) (from l .0 .0) ∙ ap (entry (a .t .now)) (l .lowered .ensures))
+    ∙ sym (is-other (a .j) _ (a .i) _ (omega arith) ∙ is-other (a .j) (a .i) _ _ (l .before .if2 .left))
 
 pub port-by-b-spec : {M : Type 1} → statement M
 port-by-b-spec =
     tie.close
     (tie.spec
+    (λ c. search needs)
     returns
     returns-2
-    (λ c. search needs)
     (λ c κs. search needs)
-    port-at-requires
+    (λ c. omega (arith, from c))
+    (λ c. omega (arith, from c))
+    (λ c. omega (arith, from (c .before)))
     raised-requires
     returns-3)

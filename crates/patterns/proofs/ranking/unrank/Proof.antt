@@ -1,5 +1,5 @@
 -- `patterns::ranking::unrank` writes the pattern of the list at the rank, and on a refusal (1, then 6) leaves the slice as it was.
-use mathlib.Core.Path.{_≡_, refl, sym, ap, _∙_}
+use mathlib.Core.Path.{sym, _∙_}
 use Prim.Native.Nat.{_≤_}
 use native.Mathlib.Omega.{arith}
 use lib.ListN.{length}
@@ -27,17 +27,17 @@ returns-2 c =
     rw (c .nowhere2 .ensures)
     (unrank-refused _ _ _ _ _ (unlisted _ _ _ _ (n .before .before .in-size .ensures) (n .before .if1 .left) (n .count-of .ensures) (c .before .if2 .taken)))
 
-pattern-of-requires : tie.Need-pattern-of-requires
-pattern-of-requires c κs = (size (c .before .before) .1, rw (c .before .count-of .ensures) at (c .if2 .left))
+put-pattern-requires : tie.Need-put-pattern-requires
+put-pattern-requires c κs = let e = c .before in (size (e .before .before) .1, rw (e .before .count-of .ensures) at (e .if2 .left))
 
 returns-3 : tie.Need-returns-3
 unfolding unrankOf
 returns-3 c =
     let w = c .before .before in
-    let n = w .before .before .before .before in
+    let n = w .before .before .before in
     let told = unrank-accepted _ _ _
-    (listed _ _ _ _ (n .before .before .in-size .ensures) (n .before .if1 .left) (n .count-of .ensures) (w .before .before .before .if2 .left)) in
-    (told .0, w .store .ensures ∙ w .before .before .pattern-of .ensures ∙ told .1)
+    (listed _ _ _ _ (n .before .before .in-size .ensures) (n .before .if1 .left) (n .count-of .ensures) (w .before .before .if2 .left)) in
+    (told .0, w .put-pattern .ensures ∙ told .1)
 
 pub unrank-spec : {M : Type 1} → statement M
 unrank-spec =
@@ -50,7 +50,6 @@ unrank-spec =
     (λ c κs. size c .1)
     (λ c κs. search needs)
     returns-2
-    pattern-of-requires
-    (λ c κs. size (c .before .before .before .before) .1)
+    put-pattern-requires
     (λ c. search needs)
     returns-3)

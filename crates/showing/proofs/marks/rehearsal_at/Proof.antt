@@ -1,12 +1,15 @@
 -- `showing::marks::rehearsal_at` finds the mark's leg and step, and puts the pattern of its rank on the panel.
 -- Assumes nothing.
 use mathlib.Core.Path.{sym}
+use Prim.Native.Nat.{_≤_, _<_}
 use native.Mathlib.Omega.{arith}
-use lib.ListN.{length-take}
 use lib.Seq.{length-take-le}
 use borrow.Author.Needs.{needs}
+use Rattle.listing.specs.Count.{count}
+use Rattle.listing.specs.Limits.{mostPorts}
 use Rattle.plan_rules.specs.Planned.{device}
 use Rattle.plan_rules.proofs.Rules.{legs-many}
+use Rattle.pattern_ranks.proofs.Lent.{front-asked, panel-put}
 use Rattle.showing.proofs.Rehearsals.{Found, rank-asked, rank-listed, rehearsal-is}
 use Rattle.showing.proofs.marks.rehearsal_at.Statement.{statement}
 use Rattle.showing.proofs.marks.rehearsal_at.Tie as tie
@@ -24,27 +27,27 @@ leg-at-requires c κs =
 rank-along-requires : tie.Need-rank-along-requires
 rank-along-requires c κs = rank-asked _ _ _ _ (found c)
 
-pattern-of-requires : tie.Need-pattern-of-requires
-pattern-of-requires c κs = rank-listed _ _ _ _ (found (c .before)) _ (c .rank-along .ensures)
+-- the rank that was found is listed
+listed : (c : tie.After-rank-along) → let n = c .before .before .before .args .plan .ports in (n ≤ mostPorts) × (c .rank-along .result < count n)
+listed c = rank-listed _ _ _ _ (found (c .before)) _ (c .rank-along .ensures)
 
-array-share-prefix-pattern : tie.Need-array-share-prefix-pattern
-array-share-prefix-pattern c = let h = rank-asked _ _ _ _ (found (c .before .before)) .1 in search needs
+array-borrow-prefix-panel : tie.Need-array-borrow-prefix-panel
+array-borrow-prefix-panel c = let h = listed c .0 in search needs
 
-slice-aggregate-load : tie.Need-slice-aggregate-load
-slice-aggregate-load c = let h = rank-asked _ _ _ _ (found (c .before .before .before)) .1 in sym (length-take-le _ _ (search needs))
+slice-aggregate-put-pattern : tie.Need-slice-aggregate-put-pattern
+slice-aggregate-put-pattern c = let h = listed (c .before) .0 in sym (length-take-le _ _ (search needs))
 
-load-requires : tie.Need-load-requires
-load-requires c κs =
-    let q = c .before in
-    let f = q .before .before in
-    let n = f .before .before .args .plan .ports in
-    omega (arith, length-take n (q .pattern-of .result), rank-asked _ _ _ _ (found f) .1)
+put-pattern-requires : tie.Need-put-pattern-requires
+put-pattern-requires c κs =
+    let l = listed (c .before) in
+    let h = l .0 in
+    front-asked _ (c .before .rank-along .result) _ (search needs) h (l .1)
 
 returns : tie.Need-returns
 returns c =
-    let q = c .before .before in
-    let x = q .before in
-    rehearsal-is _ _ _ _ (found (x .before)) _ (x .rank-along .ensures) _ _ (c .load .ensures) (q .pattern-of .ensures)
+    let x = c .before .before .before in
+    let l = listed x in
+    rehearsal-is _ _ _ _ (found (x .before)) _ (x .rank-along .ensures) _ (panel-put mostPorts 0 _ _ _ (l .0) (l .1) (c .before .put-pattern .ensures))
 
 pub rehearsal-at-spec : {M : Type 1} → statement M
 rehearsal-at-spec =
@@ -53,9 +56,8 @@ rehearsal-at-spec =
     (λ c κs. search needs)
     leg-at-requires
     rank-along-requires
-    pattern-of-requires
     (λ c. search needs)
-    array-share-prefix-pattern
-    slice-aggregate-load
-    load-requires
+    array-borrow-prefix-panel
+    slice-aggregate-put-pattern
+    put-pattern-requires
     returns)
