@@ -23,11 +23,6 @@ unfolding tabulate
 tabulate-more zero g = refl
 tabulate-more (suc n) g = ap (λ (p : List ℕ). g 1 ∷ p) (tabulate-more n (λ j. g (suc j)))
 
--- the entry of jack j + 1 is stored at index j
-pub tabulate-stored : (g : ℕ → ℕ) (u : List ℕ) (j v : ℕ) → j < length u → take j u ≡ tabulate j g → v ≡ g (j + 1)
-    → take (j + 1) (set u j v) ≡ tabulate (j + 1) g
-tabulate-stored g u j v h p e = let e′ = rw add-one at e in rw (add-one, take-suc-set u j v, tabulate-more j g, p, e′)
-
 -- the entry of t at index j is stored there
 pub copy-stored : (t u : List ℕ) (j : ℕ) → j < length u → j < length t → take j u ≡ take j t → take (j + 1) (set u j (getD t j 0)) ≡ take (j + 1) t
 copy-stored t u j hu ht p = rw (add-one, take-suc-set u j (getD t j 0), take-suc t j 0, p)

@@ -1,4 +1,4 @@
-// Panels of n jacks in arrays: the port at a jack and the jack that holds a port, the way from and to a lent slice, where two panels differ, a panel after an
+// Panels of n jacks in arrays: the port at a jack and the jack that holds a port, the way from a lent slice, where two panels differ, a panel after an
 // order, and the panel at home.
 use crate::carry_order;
 use words::Jack;
@@ -55,18 +55,6 @@ pub fn load(p: &[u8]) -> [u8; LONGEST]
         j += 1;
     }
     t
-}
-
-// The front of an array fills the lent slice.
-pub fn store(t: [u8; LONGEST], out: &mut [u8])
-    requires { ⌜ length (now out) ≤ mostPorts ⌝ }
-    ensures { λ _. ⌜ now (out .exit) ≡ take (length (now (out .entry))) t ⌝ }
-{
-    let mut j: usize = 0;
-    while j < out.len() {
-        out[j] = t[j];
-        j += 1;
-    }
 }
 
 // The first jack at which two panels differ; 0 if none does.

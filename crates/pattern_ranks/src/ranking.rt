@@ -4,8 +4,8 @@ use crate::peeling::peel;
 use crate::types::Came;
 use crate::types::Level;
 use pattern_carry::panels::load;
-use pattern_steps::counts::block_size;
-use pattern_steps::counts::count_of;
+use pattern_steps::counts::Parts;
+use pattern_steps::counts::parts_of;
 use pattern_steps::numbers::is_odd;
 use words::limits::LONGEST;
 ghost use mathlib.Core.Path.{_≡_};
@@ -19,6 +19,7 @@ ghost use Rattle.listing.specs.Steps.{shorter};
 ghost use Rattle.listing.specs.Rank.{fromEnd, rank};
 ghost use Rattle.listing.specs.Reading.{other, comesFirst, passed};
 ghost use Rattle.listing.specs.Limits.{mostPorts};
+ghost use Rattle.pattern_steps.specs.Blocks.{partOf};
 ghost use Rattle.listing_course.specs.InPlace.{Beside};
 ghost use Rattle.pattern_ranks.specs.Levels.{letterOf, endOf, LevelOf, Placing};
 
@@ -51,26 +52,26 @@ fn block_of(c: Came) -> u8
 }
 
 // How many patterns of a block come before the part in which a pattern stands: none, or those by the other step.
-fn first_part(forward: bool, n: u8, c: Came) -> u64
-    requires { ⌜ (2 ≤ n) × (n ≤ mostPorts) ⌝ }
-    ensures { λ r. ⌜ r ≡ cond (comesFirst forward (letterOf c) (endOf c)) 0 (count (shorter (other (letterOf c)) n)) ⌝ }
+fn first_part(forward: bool, parts: Parts, c: Came) -> u64
+    ensures { λ r. ⌜ r ≡ cond (comesFirst forward (letterOf c) (endOf c)) 0 (partOf (other (letterOf c)) parts) ⌝ }
 {
     if comes_first(forward, c) {
         return 0;
     }
     match c {
-        Came::ByA(_) => count_of(n - 2),
-        Came::ByB(_) => count_of(n - 1),
+        Came::ByA(_) => parts.1,
+        Came::ByB(_) => parts.0,
     }
 }
 
 // How many patterns of the list, read forward or backward, come before the part in which a pattern stands.
-pub fn passed_over(forward: bool, n: u8, c: Came) -> u64
+fn passed_over(forward: bool, n: u8, c: Came) -> u64
     requires { ⌜ (2 ≤ n) × (n ≤ mostPorts) × Among (n - 1) (endOf c) ⌝ }
     ensures { λ r. ⌜ r ≡ passed forward (letterOf c) n (endOf c) ⌝ }
 {
+    let parts = parts_of(n);
     let blocks = blocks_before(forward, n, block_of(c)) as u64;
-    blocks * block_size(n) + first_part(forward, n, c)
+    blocks * (parts.0 + parts.1) + first_part(forward, parts, c)
 }
 
 // How many ports the shorter pattern has.

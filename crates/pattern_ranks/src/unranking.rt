@@ -1,7 +1,6 @@
 // The pattern of a rank: first its course, down the levels, then the steps up the course, in the lent buffer.
 use crate::types::Origin;
-use pattern_steps::counts::block_size;
-use pattern_steps::counts::count_of;
+use pattern_steps::counts::parts_of;
 use pattern_steps::numbers::from_end;
 use pattern_steps::numbers::is_odd;
 use pattern_steps::numbers::turned_place;
@@ -22,10 +21,11 @@ pub fn origin(n: u8, rank: u64) -> Origin
     requires { ⌜ (2 ≤ n) × (n ≤ mostPorts) × (rank < count n) ⌝ }
     ensures { λ r. ⌜ r ≡ originOf n rank ⌝ }
 {
-    let size = block_size(n);
+    let parts = parts_of(n);
+    let size = parts.0 + parts.1;
     let i = (rank / size + 1) as u8;
     let u = turned_place(is_odd(i), size, rank % size);
-    if u < count_of(n - 1) {
+    if u < parts.0 {
         Origin::ByA(i, u)
     } else {
         Origin::ByB(i, from_end(size, u))

@@ -1,2 +1,3 @@
+pub mod Blocks
 pub mod LastArm
 pub mod Stored
