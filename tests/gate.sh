@@ -85,7 +85,7 @@ must_fail plan-that-no-test-runs 'a plan that no test runs: plans/unrun'
 changed citations-stripped docs/PROMISES.md 's/`//g' 'docs/PROMISES.md cites 0, and says that it cites at least'
 changed law-that-is-not-there README.md 's/`demands.Two.demand-two`/`demands.Two.demand-too`/' 'README.md cites what is not there: demands.Two.demand-too'
 changed floor-left-out docs/USING.md '$d' 'docs/USING.md does not say in its last line how many it cites at least'
-changed claim-changed docs/USING.md 's/A call takes less than 16 KiB/A call takes less than 8 KiB/' 'docs/WORKING.md quotes a claim that its page does not make'
+changed claim-changed docs/USING.md 's/A call takes less than 8 KiB/A call takes less than 4 KiB/' 'docs/WORKING.md quotes a claim that its page does not make'
 
 # ---- the public calls
 changed contract-that-no-law-holds crates/patterns/proofs/Contracts.antt '/^pub rank-says/d' 'a call whose contract no law holds: rank-says of patterns'

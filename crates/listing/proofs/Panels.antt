@@ -1,11 +1,12 @@
--- Laws of panels jack by jack: equal panels, tabulated panels, panels after orders.
+-- Laws of panels jack by jack: equal panels, panels in arrays, tabulated panels, panels after orders.
 -- Assumes nothing.
 use mathlib.Core.Path.{_≡_, refl, sym, ap, _∙_}
+use mathlib.Core.Logic.{_≢_}
 use mathlib.Core.List.{List, [], _∷_, _++_}
-use Prim.Native.Nat.{ℕ, zero, suc}
+use Prim.Native.Nat.{ℕ, zero, suc, _-_, _≤_, _<_}
 use native.Mathlib.Omega.{arith}
-use lib.ListN.{length}
-use lib.Seq.{ext-getD}
+use lib.ListN.{length, take, getD, set}
+use lib.Seq.{ext-getD, getD-take, getD-set-same, getD-set-other}
 use Rattle.listing.specs.Numbers.{Among}
 use Rattle.listing.specs.Pattern.{entry, tabulate}
 use Rattle.listing.specs.Orders.{Order, source, carry, carryAll}
@@ -15,6 +16,26 @@ use Rattle.listing.specs.Orders.{Order, source, carry, carryAll}
 -- two panels of one length that agree at each jack are equal
 pub same-entries : (p q : List ℕ) → length p ≡ length q → ((j : ℕ) → Among (length p) j → entry p j ≡ entry q j) → p ≡ q
 same-entries p q e h = ext-getD 0 p q e (λ k b. h (suc k) (omega arith))
+
+-- ---- panels in arrays
+
+-- what an array has at the place below a jack
+pub entry-below : (a : List ℕ) (j : ℕ) → 1 ≤ j → getD a (j - 1) 0 ≡ entry a j
+entry-below a zero h = absurd (omega arith)
+entry-below a (suc j) h = let e : suc j - 1 ≡ j = omega arith in rw e
+
+-- the front of an array has its entries
+pub entry-take : (n : ℕ) (a : List ℕ) (j : ℕ) → j ≤ n → entry (take n a) j ≡ entry a j
+entry-take n a zero h = refl
+entry-take n a (suc j) h = getD-take n a j 0 h
+
+-- after a store: the entry that was stored, and the others
+pub entry-same : (a : List ℕ) (k v : ℕ) → k < length a → entry (set a k v) (suc k) ≡ v
+entry-same a k v h = getD-set-same a k v 0 h
+
+pub entry-other : (a : List ℕ) (k v j : ℕ) → j ≢ suc k → entry (set a k v) j ≡ entry a j
+entry-other a k v zero d = refl
+entry-other a k v (suc j) d = getD-set-other a k j v 0 (omega arith)
 
 -- ---- tabulated panels
 

@@ -2,22 +2,20 @@
 -- Assumes nothing.
 use mathlib.Core.Path.{_≡_, refl, sym, ap, _∙_}
 use mathlib.Core.Logic.{_≢_}
-use mathlib.Core.List.{List, []}
+use mathlib.Core.List.{List}
 use Prim.Native.Nat.{ℕ, zero, suc, _≤_, _<_}
 use native.Mathlib.Omega.{arith}
-use lib.Dec.{eqb}
 use lib.ListN.{length, set, length-set}
 use borrow.Author.Tests.{eq-eqb, ne-eqb}
 use Rattle.listing.specs.Numbers.{Among}
 use Rattle.listing.specs.Pattern.{entry, Derangement}
 use Rattle.listing.specs.Count.{count}
-use Rattle.listing.specs.Steps.{byA, byB, stepA, stepB}
+use Rattle.listing.specs.Steps.{Letter, byA, byB, shorter, step, stepA, stepB}
 use Rattle.listing.specs.Listing.{listing, at}
 use Rattle.listing.proofs.Numbers.{either, same?}
-use Rattle.listing.proofs.Shorter.{shorter-first, step-derangement}
-use Rattle.listing.proofs.Ranks.{at-derangement}
+use Rattle.listing.proofs.Panels.{entry-same, entry-other}
+use Rattle.listing.proofs.Shorter.{shorter-first, step-derangement, made-once}
 use Rattle.listing_course.specs.Course.{built, Course, CourseOf, Traced}
-use Rattle.listing_course.proofs.InPlace.{entry-same, entry-other}
 
 -- ---- a course and its fronts
 
@@ -33,7 +31,10 @@ course-none c = record { below = λ k h. absurd (omega arith); apart = λ k b h.
 last-fits : {c : List ℕ} {m : ℕ} → Course c (suc (suc m)) → Among (suc m) (entry c (suc (suc m)))
 last-fits {c = c} {m = m} C = omega (arith, C .below (suc (suc m)) (omega arith), C .met (omega arith))
 
--- a level below that is passed over: the one below it is met
+-- the front up to the level below, where that is met, and up to the one below it, where it is passed over
+met-front : {c : List ℕ} {m : ℕ} → Course c (suc (suc m)) → entry c (suc m) ≢ 0 → Course c (suc m)
+met-front C d = course-front C (omega arith) (λ h. d)
+
 below-front : {c : List ℕ} {m : ℕ} → Course c (suc (suc m)) → entry c (suc m) ≡ 0 → Course c m
 below-front {m = m} C e = course-front C (omega arith) (λ h z. C .apart m h (omega arith) z e)
 
@@ -60,7 +61,50 @@ built-pattern c =
     (λ e. rw (built-B c m e) (step-derangement byB m (entry c (suc (suc m))) (built c m) (last-fits C) (shorter-ones byB (below-front C e))))
     (λ d.
     rw (built-A c m d)
-    (step-derangement byA m (entry c (suc (suc m))) (built c (suc m)) (last-fits C) (shorter-ones byA (course-front C (omega arith) (λ h. d))))))
+    (step-derangement byA m (entry c (suc (suc m))) (built c (suc m)) (last-fits C) (shorter-ones byA (met-front C d)))))
+
+-- ---- one course only
+
+-- A is not B
+isB : Letter → ℕ
+isB byA = 0
+isB byB = 1
+
+two-letters : byB ≡ byA → ⊥
+unfolding isB
+two-letters e = let z : _≡_ {A = ℕ} 1 0 = ap isB e in omega arith
+
+-- what a pattern tells of the last level of its courses: with the letters v and w they choose the same, and go on from the same shorter pattern
+last-once : (c d : List ℕ) (m : ℕ) (v w : Letter) → Course c (suc (suc m)) → Course d (suc (suc m)) → built c (suc (suc m)) ≡ built d (suc (suc m))
+    → built c (suc (suc m)) ≡ step v (suc (suc m)) (entry c (suc (suc m))) (built c (shorter v (suc (suc m)))) → Course c (shorter v (suc (suc m)))
+    → built d (suc (suc m)) ≡ step w (suc (suc m)) (entry d (suc (suc m))) (built d (shorter w (suc (suc m)))) → Course d (shorter w (suc (suc m)))
+    → (v ≡ w) × (entry c (suc (suc m)) ≡ entry d (suc (suc m))) × (built c (shorter v (suc (suc m))) ≡ built d (shorter w (suc (suc m))))
+last-once c d m v w C D e ec Bc ed Bd =
+    made-once m v w (entry c (suc (suc m))) (entry d (suc (suc m))) (built c (shorter v (suc (suc m)))) (built d (shorter w (suc (suc m)))) (last-fits C) (last-fits D)
+    (built-pattern c (shorter v (suc (suc m))) Bc) (built-pattern d (shorter w (suc (suc m))) Bd) (sym ec ∙ e ∙ ed)
+
+-- a pattern has one course: two that make it choose the same at every level
+pub only-course : (c d : List ℕ) (n : ℕ) → Course c n → Course d n → built c n ≡ built d n → (k : ℕ) → Among n k → entry c k ≡ entry d k
+only-course c d =
+    shorter-first (λ n. Course c n → Course d n → built c n ≡ built d n → (k : ℕ) → Among n k → entry c k ≡ entry d k)
+    (λ C D e k h. absurd (omega arith))
+    (λ C D e k h. absurd (omega (arith, C .below 1 (omega arith), C .met (omega arith))))
+    (λ m shorter-ones C D e k h.
+    let n = suc (suc m) in
+    either (same? (entry c (suc m)) 0)
+    (λ x.
+    either (same? (entry d (suc m)) 0)
+    (λ y.
+    let s = last-once c d m byB byB C D e (built-B c m x) (below-front C x) (built-B d m y) (below-front D y) in
+    either (same? k n) (λ z. rw z (s .1)) (λ z.
+    either (same? k (suc m)) (λ q. rw q (x ∙ sym y)) (λ q. shorter-ones byB (below-front C x) (below-front D y) (s .2) k (omega arith))))
+    (λ y. absurd (two-letters (last-once c d m byB byA C D e (built-B c m x) (below-front C x) (built-A d m y) (met-front D y) .0))))
+    (λ x.
+    either (same? (entry d (suc m)) 0)
+    (λ y. absurd (two-letters (sym (last-once c d m byA byB C D e (built-A c m x) (met-front C x) (built-B d m y) (below-front D y) .0))))
+    (λ y.
+    let s = last-once c d m byA byA C D e (built-A c m x) (met-front C x) (built-A d m y) (met-front D y) in
+    either (same? k n) (λ z. rw z (s .1)) (λ z. shorter-ones byA (met-front C x) (met-front D y) (s .2) k (omega arith)))))
 
 -- ---- up a course
 

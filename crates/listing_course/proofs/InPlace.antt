@@ -1,33 +1,18 @@
 -- The steps A(i) and B(i), and the step back from B, done in one lent array: what a store changes, and what each loop ends with.
 -- Assumes nothing.
-use mathlib.Core.Path.{_≡_, refl, sym, ap, _∙_}
+use mathlib.Core.Path.{_≡_, sym, ap, _∙_}
 use mathlib.Core.Logic.{_≢_}
 use mathlib.Core.List.{List}
-use Prim.Native.Nat.{ℕ, zero, suc, _≤_, _<_}
+use Prim.Native.Nat.{ℕ, suc, _≤_, _<_}
 use native.Mathlib.Omega.{arith}
 use lib.ListN.{length, take, set, length-set}
-use lib.Seq.{length-take-le, getD-take, getD-set-same, getD-set-other}
+use lib.Seq.{length-take-le}
 use Rattle.listing.specs.Numbers.{Among, before, is, trade, raise, lower}
 use Rattle.listing.specs.Pattern.{entry, tabulate, Permutation}
 use Rattle.listing.specs.Steps.{stepA, stepB, unB, byStepA, byStepB, byBackB}
-use Rattle.listing.proofs.Numbers.{either, same?, is-same, is-other, is-cases, trade-cases, raise-near, lower-cases, lower-among}
-use Rattle.listing.proofs.Panels.{is-tabulated}
+use Rattle.listing.proofs.Numbers.{either, same?, is-same, is-cases, trade-cases, raise-near, lower-cases, lower-among}
+use Rattle.listing.proofs.Panels.{entry-take, entry-same, entry-other, is-tabulated}
 use Rattle.listing_course.specs.InPlace.{Changing, Raising, Lowering}
-
--- ---- arrays jack by jack
-
--- the front of an array has its entries
-pub entry-take : (n : ℕ) (a : List ℕ) (j : ℕ) → j ≤ n → entry (take n a) j ≡ entry a j
-entry-take n a zero h = refl
-entry-take n a (suc j) h = getD-take n a j 0 h
-
--- after a store
-pub entry-same : (a : List ℕ) (k v : ℕ) → k < length a → entry (set a k v) (suc k) ≡ v
-entry-same a k v h = getD-set-same a k v 0 h
-
-pub entry-other : (a : List ℕ) (k v j : ℕ) → j ≢ suc k → entry (set a k v) j ≡ entry a j
-entry-other a k v zero d = refl
-entry-other a k v (suc j) d = getD-set-other a k j v 0 (omega arith)
 
 -- an array of n places or more begins with a tabulated panel if it does so at each jack
 pub front : (n : ℕ) (g : ℕ → ℕ) (a : List ℕ) → n ≤ length a → ((j : ℕ) → Among n j → entry a j ≡ g j) → take n a ≡ tabulate n g

@@ -1,6 +1,6 @@
 -- The inverse beside a pattern: it tells the letter; A and B are taken back on both at once; and it is filled in one pass.
 -- Assumes nothing.
-use mathlib.Core.Path.{_≡_, refl, sym, ap, _∙_, subst}
+use mathlib.Core.Path.{_≡_, sym, ap, _∙_}
 use mathlib.Core.Logic.{_≢_}
 use mathlib.Core.List.{List}
 use Prim.Native.Nat.{ℕ, suc, _≤_, _<_}
@@ -8,15 +8,15 @@ use native.Mathlib.Omega.{arith}
 use lib.ListN.{length, take, set, length-set}
 use lib.Seq.{length-take-le}
 use borrow.Author.Tests.{eq-eqb, ne-eqb}
-use Rattle.listing.specs.Numbers.{Among, raise, lower, trade}
+use Rattle.listing.specs.Numbers.{Among, raise, lower}
 use Rattle.listing.specs.Pattern.{entry, Permutation, Derangement}
 use Rattle.listing.specs.Steps.{byA, byB, letter, unA, unB, byBackA, byBackB}
 use Rattle.listing.proofs.Numbers.{either, same?, trade-cases, raise-near, raise-lower, lower-raise, raise-among}
-use Rattle.listing.proofs.Panels.{length-tabulate, entry-tabulate}
+use Rattle.listing.proofs.Panels.{entry-take, entry-same, entry-other, length-tabulate, entry-tabulate}
 use Rattle.listing.proofs.Onto.{stands}
 use Rattle.listing.proofs.Shorter.{letter-back}
 use Rattle.listing_course.specs.InPlace.{Inverse, Inverted, Beside}
-use Rattle.listing_course.proofs.InPlace.{entry-take, entry-same, entry-other, front}
+use Rattle.listing_course.proofs.InPlace.{front}
 
 -- ---- the inverse
 

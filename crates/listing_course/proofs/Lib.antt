@@ -1,3 +1,4 @@
 pub mod Courses
 pub mod InPlace
 pub mod Inverse
+pub mod Worked

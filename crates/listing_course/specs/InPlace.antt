@@ -1,6 +1,6 @@
 -- The steps A and B, and the steps back, in one lent array, jack 1 first: what stands in it between two stores; and the inverse beside a pattern.
 -- Assumes nothing.
-use Prim.Native.Nat.{ℕ, suc, _≤_, _<_}
+use Prim.Native.Nat.{ℕ, _≤_, _<_}
 use mathlib.Core.Path.{_≡_}
 use mathlib.Core.List.{List}
 use lib.ListN.{length, take}

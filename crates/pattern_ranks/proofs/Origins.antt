@@ -7,16 +7,15 @@ use Prim.Native.Nat.{ℕ, zero, suc, _+_, _-_, _/_, _%_, _≤_, _<_}
 use native.Mathlib.Nat.{mod-lt, not-suc-le-zero}
 use native.Mathlib.Numerals.{add-one}
 use native.Mathlib.Omega.{arith}
-use lib.ListN.{take}
 use borrow.Author.Tests.{lt-ltb, le-ltb}
 use Rattle.listing.specs.Numbers.{Among, before, odd}
 use Rattle.listing.specs.Count.{count}
 use Rattle.listing.specs.Steps.{stepA, stepB}
-use Rattle.listing.specs.Listing.{listing, at}
+use Rattle.listing.specs.Listing.{at}
 use Rattle.listing.specs.Rank.{fromEnd, perBlock, turned, unrank}
 use Rattle.listing.proofs.Numbers.{either, below?}
 use Rattle.listing.proofs.Places.{turned-below}
-use Rattle.listing.proofs.Ranks.{perBlock-pos, block-among, at-derangement}
+use Rattle.listing.proofs.Ranks.{perBlock-pos, block-among}
 use Rattle.listing.proofs.Unranks.{unrank-at}
 use Rattle.pattern_ranks.specs.Levels.{originIn, originOf}
 use Rattle.pattern_ranks.specs.declared.types.Origin.{Origin}

@@ -1,6 +1,6 @@
 -- One level of a pattern's place: the step that it came by, what is passed over, and that the sum fits 64 bits.
 -- Assumes nothing.
-use mathlib.Core.Path.{_≡_, refl, sym, ap, _∙_}
+use mathlib.Core.Path.{_≡_, refl, _∙_}
 use mathlib.Core.Logic.{_≢_}
 use mathlib.Core.Bool.{Bool, true, false, not, cond, Bool·beq}
 use mathlib.Core.List.{List}
@@ -23,7 +23,6 @@ use Rattle.listing.proofs.Reading.{rank-read}
 use Rattle.pattern_ranks.specs.Levels.{cameOf, letterOf, endOf, Peeled, LevelOf, Placing}
 use Rattle.pattern_ranks.specs.declared.types.Level.{Level}
 use Rattle.pattern_ranks.specs.declared.types.Came.{Came}
-use Rattle.pattern_ranks.specs.declared.types.Came.the-variants.{ByA, ByB}
 use Rattle.pattern_ranks.proofs.Origins.{two-ports}
 
 -- ---- the step that a pattern came by

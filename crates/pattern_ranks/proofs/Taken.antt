@@ -1,19 +1,19 @@
 -- A level taken off a pattern and its inverse, in the numbers that the code has: its stores are those of the laws.
 -- Assumes nothing.
-use mathlib.Core.Path.{_≡_, refl, sym, ap, _∙_}
+use mathlib.Core.Path.{_≡_, sym, ap, _∙_}
 use mathlib.Core.Logic.{_≢_}
 use mathlib.Core.List.{List}
-use Prim.Native.Nat.{ℕ, zero, suc, _+_, _-_, _≤_, _<_}
+use Prim.Native.Nat.{ℕ, suc, _+_, _-_, _≤_, _<_}
 use native.Mathlib.Numerals.{add-one}
 use native.Mathlib.Omega.{arith}
 use lib.ListN.{length, take, getD, set, length-set}
 use Rattle.listing.specs.Numbers.{Among}
-use Rattle.listing.specs.Pattern.{entry, Permutation, Derangement}
+use Rattle.listing.specs.Pattern.{entry, Permutation}
 use Rattle.listing.specs.Steps.{unB}
 use Rattle.listing.specs.Limits.{mostPorts}
 use Rattle.listing.proofs.Numbers.{from-two}
+use Rattle.listing.proofs.Panels.{entry-take}
 use Rattle.listing_course.specs.InPlace.{Inverted, Beside}
-use Rattle.listing_course.proofs.InPlace.{entry-take}
 use Rattle.listing_course.proofs.Inverse.{inverse-at, back-A, back-B, inverted-on}
 use Rattle.pattern_ranks.specs.Levels.{Peeled}
 use Rattle.pattern_ranks.specs.declared.types.Came.the-variants.{ByA, ByB}

@@ -1,27 +1,22 @@
 -- The steps in place as the code makes them: its stores, by its own numbers, are those of the laws.
 -- Assumes nothing.
-use mathlib.Core.Path.{_≡_, refl, sym, ap, _∙_}
-use mathlib.Core.Logic.{_≢_}
+use mathlib.Core.Path.{_≡_, sym, _∙_}
 use mathlib.Core.List.{List}
 use Prim.Native.Nat.{ℕ, zero, suc, _+_, _-_, _≤_, _<_}
 use native.Mathlib.Numerals.{add-one}
 use native.Mathlib.Omega.{arith}
-use lib.ListN.{length, take, getD, set}
+use lib.ListN.{length, take, set}
 use Rattle.listing.specs.Numbers.{Among, raise, lower}
 use Rattle.listing.specs.Pattern.{entry, Permutation, Derangement}
 use Rattle.listing.specs.Steps.{byStepB, byBackB, stepA, unB}
 use Rattle.listing.specs.Limits.{mostPorts}
-use Rattle.listing.proofs.Numbers.{from-two, less-two, raise-near}
+use Rattle.listing.proofs.Numbers.{from-two, raise-near}
+use Rattle.listing.proofs.Panels.{entry-below, entry-take}
 use Rattle.listing_course.specs.InPlace.{Raising, Lowering}
-use Rattle.listing_course.proofs.InPlace.{A-stored, changed, raising-port, lowering-start, lowering-port, lowering-end, entry-take}
+use Rattle.listing_course.proofs.InPlace.{A-stored, changed, raising-port, lowering-start, lowering-port, lowering-end}
 use Rattle.pattern_check.specs.Faults.{seek}
 use Rattle.pattern_carry.proofs.Held.{held}
 use Rattle.pattern_steps.specs.Steps.{LeftFit}
-
--- what a panel has at a place below a jack
-pub entry-below : (a : List ℕ) (j : ℕ) → 1 ≤ j → getD a (j - 1) 0 ≡ entry a j
-entry-below a zero h = absurd (omega arith)
-entry-below a (suc j) h = let e : suc j - 1 ≡ j = omega arith in rw e
 
 -- ---- A(i)
 

@@ -16,8 +16,7 @@ ghost use Rattle.pattern_steps.specs.Steps.{LeftFit};
 // A(i), from the pattern of m ports: m + 1 where it holds i, and i after it.
 pub fn step_a(out: &mut [u8], m: u8, i: u8)
     requires { ⌜ (suc m ≤ length (now out)) × (suc m ≤ mostPorts) × Derangement m (take m (now out)) × Among m i ⌝ }
-    ensures long { λ _. ⌜ length (now (out .exit)) ≡ length (now (out .entry)) ⌝ }
-    ensures pattern { λ _. ⌜ take (suc m) (now (out .exit)) ≡ stepA (suc m) i (take m (now (out .entry))) ⌝ }
+    ensures { λ _. ⌜ take (suc m) (now (out .exit)) ≡ stepA (suc m) i (take m (now (out .entry))) ⌝ }
 {
     let last = m as usize;
     let jack = holder(&out[..last], Port(i));
@@ -46,8 +45,7 @@ fn port_by_b(t: &[u8], m: u8, i: u8, j: u8) -> u8
 // B(i), from the pattern of m ports, from the last jack down: no jack is written before its port has been taken.
 pub fn step_b(out: &mut [u8], m: u8, i: u8)
     requires { ⌜ (suc (suc m) ≤ length (now out)) × (suc (suc m) ≤ mostPorts) × Derangement m (take m (now out)) × Among (suc m) i ⌝ }
-    ensures long { λ _. ⌜ length (now (out .exit)) ≡ length (now (out .entry)) ⌝ }
-    ensures pattern { λ _. ⌜ take (suc (suc m)) (now (out .exit)) ≡ stepB (suc (suc m)) i (take m (now (out .entry))) ⌝ }
+    ensures { λ _. ⌜ take (suc (suc m)) (now (out .exit)) ≡ stepB (suc (suc m)) i (take m (now (out .entry))) ⌝ }
 {
     let mut j = m + 2;
     while 0 < j {

@@ -1,12 +1,9 @@
 -- `pattern_ranks::unranking::origin` meets its contract: the numbers are those of the definition, and each is small enough.
 -- Assumes nothing.
-use mathlib.Core.Path.{_≡_, _∙_}
 use Prim.Native.Nat.{_+_, _<_}
 use native.Mathlib.Nat.{mod-lt}
 use native.Mathlib.Omega.{arith}
 use borrow.Author.Needs.{needs}
-use Rattle.listing.specs.Numbers.{odd}
-use Rattle.listing.specs.Rank.{turned}
 use Rattle.pattern_steps.proofs.Blocks.{parts-size, parts-fit}
 use Rattle.pattern_ranks.proofs.Origins.{size-some, blocks-fewer, place-inside, origin-A, origin-B}
 use Rattle.pattern_ranks.proofs.unranking.origin.Statement.{statement}

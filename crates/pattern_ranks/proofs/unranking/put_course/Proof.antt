@@ -4,11 +4,9 @@
 use mathlib.Core.Path.{_≡_, refl, sym, ap, _∙_}
 use Prim.Native.Nat.{suc, _-_, _≤_, _<_}
 use native.Mathlib.Omega.{arith}
-use lib.ListN.{length, take, getD}
+use lib.ListN.{length, take}
 use lib.Seq.{take-all}
 use borrow.Author.Needs.{needs}
-use Rattle.listing.specs.Numbers.{Among}
-use Rattle.listing.specs.Pattern.{Derangement}
 use Rattle.listing_course.specs.Course.{built, Course}
 use Rattle.listing_course.proofs.Courses.{course-none}
 use Rattle.pattern_ranks.proofs.Ways.{front-pattern, next-A, made-A, next-B, made-B}
@@ -47,8 +45,8 @@ loop-again c =
     let s = l .before .before in
     let i = l .loop .inv in
     let n = next-B _ (l .loop .out) (s .pre .1) (i .2) (i .3) (omega arith) (f .if1 .taken) in
-    let m = made-B _ (l .loop .out) (s .pre .1) (i .2) (i .3) (omega arith) (f .if1 .taken) _ (b .step-b .ensures .1) in
-    (omega arith, b .step-b .ensures .0 ∙ i .1, m .0, m .1)
+    let m = made-B _ (l .loop .out) (s .pre .1) (i .2) (i .3) (omega arith) (f .if1 .taken) _ (b .step-b .ensures) in
+    (omega arith, b .step-b .kept .0 ∙ i .1, m .0, m .1)
 
 step-a-requires : tie.Need-step-a-requires Inv-loop μ-loop
 step-a-requires c κs =
@@ -68,8 +66,8 @@ loop-again-2 c =
     let l = f .before .before in
     let s = l .before .before in
     let i = l .loop .inv in
-    let m = made-A _ (l .loop .out) (s .pre .1) (i .2) (i .3) (omega arith) (f .if1 .left) _ (a .step-a .ensures .1) in
-    (omega arith, a .step-a .ensures .0 ∙ i .1, m .0, m .1)
+    let m = made-A _ (l .loop .out) (s .pre .1) (i .2) (i .3) (omega arith) (f .if1 .left) _ (a .step-a .ensures) in
+    (omega arith, a .step-a .kept .0 ∙ i .1, m .0, m .1)
 
 returns : tie.Need-returns Inv-loop μ-loop
 returns c =

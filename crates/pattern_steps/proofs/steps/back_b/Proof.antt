@@ -1,7 +1,7 @@
 -- `pattern_steps::steps::back_b` meets its contract: each turn writes one jack, from the first on. The loop's invariant: the first j jacks have the ports of
 -- the step back, and those after them still have their own.
 -- Assumes nothing.
-use mathlib.Core.Path.{_≡_, refl, sym, _∙_}
+use mathlib.Core.Path.{_≡_, sym, _∙_}
 use Prim.Native.Nat.{_-_, _≤_}
 use native.Mathlib.Omega.{arith}
 use lib.ListN.{length, take, getD, length-set}
@@ -9,8 +9,8 @@ use borrow.Author.Needs.{needs}
 use Rattle.listing.specs.Pattern.{entry}
 use Rattle.listing.specs.Limits.{mostPorts}
 use Rattle.listing_course.specs.InPlace.{Lowering}
-use Rattle.listing_course.proofs.InPlace.{entry-take}
-use Rattle.pattern_steps.proofs.Stored.{entry-below, lowered-begin, lowered-on, lowered-done, from-jack}
+use Rattle.listing.proofs.Panels.{entry-below, entry-take}
+use Rattle.pattern_steps.proofs.Stored.{lowered-begin, lowered-on, lowered-done, from-jack}
 use Rattle.pattern_steps.proofs.steps.back_b.Statement.{statement}
 use Rattle.pattern_steps.proofs.steps.back_b.Tie as tie
 

@@ -5,7 +5,7 @@ use native.Mathlib.Omega.{arith}
 use borrow.Author.Needs.{needs}
 use Rattle.listing.specs.Numbers.{lower}
 use Rattle.listing.specs.Pattern.{entry}
-use Rattle.pattern_steps.proofs.Stored.{entry-below}
+use Rattle.listing.proofs.Panels.{entry-below}
 use Rattle.pattern_steps.proofs.steps.port_back_b.Statement.{statement}
 use Rattle.pattern_steps.proofs.steps.port_back_b.Tie as tie
 

@@ -7,7 +7,7 @@ use borrow.Author.Needs.{needs}
 use Rattle.listing.specs.Numbers.{Among, raise, lower}
 use Rattle.listing.specs.Pattern.{entry}
 use Rattle.listing.proofs.Numbers.{either, is-same, is-other, lower-among, lower-cases}
-use Rattle.pattern_steps.proofs.Stored.{entry-below}
+use Rattle.listing.proofs.Panels.{entry-below}
 use Rattle.pattern_steps.proofs.steps.port_by_b.Statement.{statement}
 use Rattle.pattern_steps.proofs.steps.port_by_b.Tie as tie
 

@@ -2,7 +2,7 @@
 -- Assumes nothing.
 use mathlib.Core.Path.{sym, refl}
 use native.Mathlib.Omega.{arith}
-use lib.ListN.{length-set, length-take}
+use lib.ListN.{length-set}
 use lib.Seq.{length-take-le}
 use borrow.Author.Needs.{needs}
 use Rattle.listing.specs.Numbers.{Among}
@@ -18,7 +18,7 @@ returns : tie.Need-returns
 returns c =
     let h = c .before in
     let s = h .before .before .before in
-    (simp length-set refl, A-made (s .args .out .now) (s .pre .2) (s .pre .3) (h .holder .ensures) (s .pre .0))
+    A-made (s .args .out .now) (s .pre .2) (s .pre .3) (h .holder .ensures) (s .pre .0)
 
 pub step-a-spec : {M : Type 1} → statement M
 step-a-spec =

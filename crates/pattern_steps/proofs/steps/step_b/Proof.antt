@@ -46,7 +46,7 @@ returns c =
     let l = c .before in
     let a = l .before .before .args in
     let z : l .loop .j ≡ 0 = omega arith in
-    (l .loop .inv .1, raising-end (a .m) (a .i) _ (l .loop .out) (rw z at (l .loop .inv .2)) (omega arith))
+    raising-end (a .m) (a .i) _ (l .loop .out) (rw z at (l .loop .inv .2)) (omega arith)
 
 pub step-b-spec : {M : Type 1} → statement M
 step-b-spec =
