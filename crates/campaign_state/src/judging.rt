@@ -5,7 +5,7 @@ use campaign_way::ToCome;
 use campaign_way::along::rank_along;
 use campaign_way::coming::coming;
 use pattern_carry::panels::first_wrong;
-use pattern_ranks::unranking::put_pattern;
+use pattern_course::unranking::put_pattern;
 use plan_rules::leg_at;
 use plan_rules::plan_ruled;
 use words::Leg;

@@ -1,5 +1,2 @@
-pub mod Lent
-pub mod Origins
 pub mod Passing
 pub mod Taken
-pub mod Ways

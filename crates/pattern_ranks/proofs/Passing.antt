@@ -18,12 +18,11 @@ use Rattle.listing.specs.Rank.{perBlock, turned, rank}
 use Rattle.listing.specs.Reading.{other, comesFirst, passed}
 use Rattle.listing.proofs.Counts.{count-blocks}
 use Rattle.listing.proofs.Shorter.{end-fits, letter-back}
-use Rattle.listing.proofs.Ranks.{rank-below}
+use Rattle.listing.proofs.Ranks.{not-one}
 use Rattle.listing.proofs.Reading.{rank-read}
 use Rattle.pattern_ranks.specs.Levels.{cameOf, letterOf, endOf, Peeled, LevelOf, Placing}
 use Rattle.pattern_ranks.specs.declared.types.Level.{Level}
 use Rattle.pattern_ranks.specs.declared.types.Came.{Came}
-use Rattle.pattern_ranks.proofs.Origins.{two-ports}
 
 -- ---- the step that a pattern came by
 
@@ -34,7 +33,9 @@ as-came c byB i e = rw e (refl, refl)
 
 -- a pattern with a port has two
 pub two-jacks : {n : ℕ} {p : List ℕ} → n ≢ 0 → Derangement n p → 2 ≤ n
-two-jacks {n = n} {p = p} h D = two-ports h (rank-below n p D)
+two-jacks {n = zero} h D = absurd (h refl)
+two-jacks {n = suc zero} {p = p} h D = absurd (not-one p D)
+two-jacks {n = suc (suc m)} h D = omega arith
 
 -- the entry at the last jack is 1 to n - 1
 pub end-among : {n : ℕ} {p : List ℕ} {c : Came} → 2 ≤ n → Derangement n p → c ≡ cameOf (letter n p) (entry p n) → Among (n - 1) (endOf c)

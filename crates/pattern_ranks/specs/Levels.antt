@@ -1,48 +1,34 @@
--- One level of the list: from a rank to the step and the shorter rank, and from a pattern to the step and what is passed over.
+-- One level of a pattern: the step that it came by, the shorter pattern, and what is passed over.
 -- Assumes nothing.
-use Prim.Native.Nat.{ℕ, suc, _+_, _-_, _/_, _%_, _≤_, _<_}
+use Prim.Native.Nat.{ℕ, _+_, _≤_, _<_}
 use mathlib.Core.Path.{_≡_}
-use mathlib.Core.Bool.{Bool, cond}
+use mathlib.Core.Bool.{Bool}
 use mathlib.Core.List.{List}
-use lib.Dec.{ltb}
 use lib.ListN.{length, take}
-use Rattle.listing.specs.Numbers.{before, odd}
 use Rattle.listing.specs.Pattern.{entry}
 use Rattle.listing.specs.Count.{count}
 use Rattle.listing.specs.Steps.{Letter, byA, byB, shorter, back, letter}
-use Rattle.listing.specs.Rank.{fromEnd, perBlock, turned, rank}
+use Rattle.listing.specs.Rank.{turned, rank}
 use Rattle.listing.specs.Limits.{mostPorts, largest64}
 use Rattle.listing_course.specs.InPlace.{Beside}
-use Rattle.pattern_ranks.specs.declared.types.Origin.{Origin}
-use Rattle.pattern_ranks.specs.declared.types.Origin.the-variants.{ByA, ByB}
 use Rattle.pattern_ranks.specs.declared.types.Came.{Came}
-use Rattle.pattern_ranks.specs.declared.types.Came.the-variants.{ByA as Came-ByA, ByB as Came-ByB}
+use Rattle.pattern_ranks.specs.declared.types.Came.the-variants.{ByA, ByB}
 use Rattle.pattern_ranks.specs.declared.types.Level.{Level}
-
--- place u of block i, read as an odd one: first the patterns by A in the list's order, then those by B in the reversed
-abbrev pub originIn : ℕ → ℕ → ℕ → Origin
-originIn n i u = cond (ltb u (count (before n))) (ByA i u) (ByB i (fromEnd (count (before (before n))) (u - count (before n))))
-
--- the step that makes the pattern of rank r, and the rank of the shorter one, as `unrank` has them (the paper, 'The list')
-unfoldable pub originOf : ℕ → ℕ → Origin
-originOf n r =
-    let i = suc (r / perBlock n) in
-    originIn n i (turned (odd i) (perBlock n) (r % perBlock n))
 
 -- the step that a pattern came by: the letter, and the entry at its last jack
 abbrev pub cameOf : Letter → ℕ → Came
-cameOf byA i = Came-ByA i
-cameOf byB i = Came-ByB i
+cameOf byA i = ByA i
+cameOf byB i = ByB i
 
 -- the letter of a step
 abbrev pub letterOf : Came → Letter
-letterOf (Came-ByA i) = byA
-letterOf (Came-ByB i) = byB
+letterOf (ByA i) = byA
+letterOf (ByB i) = byB
 
 -- the entry at the last jack, which is the number of the block
 abbrev pub endOf : Came → ℕ
-endOf (Came-ByA i) = i
-endOf (Came-ByB i) = i
+endOf (ByA i) = i
+endOf (ByB i) = i
 
 -- one level taken off the pattern t of n ports: the step that it came by, and in the arrays a and b the shorter pattern, with its inverse
 pub record Peeled (n : ℕ) (t : List ℕ) (c : Came) (a b : List ℕ) : Type 0 where

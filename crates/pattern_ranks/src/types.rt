@@ -1,11 +1,5 @@
 // What one level hands on to the next.
 
-// The step that makes a pattern, and the rank of the shorter pattern that it is made from.
-pub enum Origin {
-    ByA(u8, u64),
-    ByB(u8, u64),
-}
-
 // The step that a pattern came by, with the entry at its last jack.
 pub enum Came {
     ByA(u8),

@@ -1,8 +1,8 @@
 // Rank from pattern and pattern from rank.
 use pattern_check::checking::check;
 use pattern_check::checking::in_size;
+use pattern_course::unranking::put_pattern;
 use pattern_ranks::ranking::rank_of;
-use pattern_ranks::unranking::put_pattern;
 use pattern_steps::counts::count_of;
 use words::Numbered;
 use words::Outcome;

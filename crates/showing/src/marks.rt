@@ -1,6 +1,6 @@
 // Where a mark of a plan stands: its leg and its step there, and the rehearsal that is about to hand it out.
 use campaign_way::along::rank_along;
-use pattern_ranks::unranking::put_pattern;
+use pattern_course::unranking::put_pattern;
 use plan_rules::Plan;
 use plan_rules::leg_at;
 use printing::Rehearsal;

@@ -5,7 +5,7 @@ use lib.Seq.{length-take-le}
 use borrow.Author.Needs.{needs}
 use Rattle.listing.specs.Count.{count}
 use Rattle.listing.specs.Limits.{mostPorts}
-use Rattle.pattern_ranks.proofs.Lent.{front-asked, front-put}
+use Rattle.pattern_course.proofs.Lent.{front-asked, front-put}
 use Rattle.campaign_way.proofs.Walks.{walk-listed}
 use Rattle.campaign_state.proofs.Places.{Sized, few-ports, step-below, start-listed, same-pattern}
 use Rattle.campaign_state.proofs.judging.at_pattern.Statement.{statement}

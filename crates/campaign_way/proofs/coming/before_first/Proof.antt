@@ -9,7 +9,7 @@ use Rattle.listing.specs.Pattern.{Permutation}
 use Rattle.listing.proofs.Ranks.{at-derangement}
 use Rattle.promise.specs.Carriage.{carriage}
 use Rattle.plan_rules.specs.Rules.{legIs}
-use Rattle.pattern_ranks.proofs.Lent.{front-asked, front-put}
+use Rattle.pattern_course.proofs.Lent.{front-asked, front-put}
 use Rattle.campaign_way.specs.Coming.{nextOf}
 use Rattle.campaign_way.proofs.Orders.{front-accepted, front-refused, first-astray, first-carried}
 use Rattle.campaign_way.proofs.coming.before_first.Statement.{statement}

@@ -8,7 +8,7 @@ use Rattle.listing.specs.Count.{count}
 use Rattle.promise.specs.Campaign.{toCome}
 use Rattle.promise.specs.Derangements.{derangements}
 use Rattle.plan_rules.specs.Rules.{legIs}
-use Rattle.pattern_ranks.proofs.Lent.{front-asked, front-put}
+use Rattle.pattern_course.proofs.Lent.{front-asked, front-put}
 use Rattle.campaign_way.specs.Coming.{nextOf}
 use Rattle.campaign_way.proofs.Walks.{walk-listed}
 use Rattle.campaign_way.proofs.Orders.{beside-form, later-way}

@@ -9,7 +9,7 @@ use Rattle.listing.specs.Count.{count}
 use Rattle.listing.specs.Limits.{mostPorts}
 use Rattle.plan_rules.specs.Planned.{device}
 use Rattle.plan_rules.proofs.Rules.{legs-many}
-use Rattle.pattern_ranks.proofs.Lent.{front-asked, panel-put}
+use Rattle.pattern_course.proofs.Lent.{front-asked, panel-put}
 use Rattle.showing.proofs.Rehearsals.{Found, rank-asked, rank-listed, rehearsal-is}
 use Rattle.showing.proofs.marks.rehearsal_at.Statement.{statement}
 use Rattle.showing.proofs.marks.rehearsal_at.Tie as tie

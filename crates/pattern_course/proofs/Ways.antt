@@ -13,8 +13,8 @@ use Rattle.listing.specs.Steps.{stepA, stepB}
 use Rattle.listing.proofs.Numbers.{from-two}
 use Rattle.listing_course.specs.Course.{built, Course, Traced}
 use Rattle.listing_course.proofs.Courses.{built-pattern, up-A, up-B, traced-A, traced-B}
-use Rattle.pattern_ranks.specs.declared.types.Origin.the-variants.{ByA, ByB}
-use Rattle.pattern_ranks.proofs.Origins.{Makes}
+use Rattle.pattern_course.specs.declared.types.Origin.the-variants.{ByA, ByB}
+use Rattle.pattern_course.proofs.Origins.{Makes}
 
 -- ---- down
 

@@ -1,13 +1,13 @@
--- `pattern_ranks::unranking::origin` meets its contract: the numbers are those of the definition, and each is small enough.
+-- `pattern_course::unranking::origin` meets its contract: the numbers are those of the definition, and each is small enough.
 -- Assumes nothing.
 use Prim.Native.Nat.{_+_, _<_}
 use native.Mathlib.Nat.{mod-lt}
 use native.Mathlib.Omega.{arith}
 use borrow.Author.Needs.{needs}
 use Rattle.pattern_steps.proofs.Blocks.{parts-size, parts-fit}
-use Rattle.pattern_ranks.proofs.Origins.{size-some, blocks-fewer, place-inside, origin-A, origin-B}
-use Rattle.pattern_ranks.proofs.unranking.origin.Statement.{statement}
-use Rattle.pattern_ranks.proofs.unranking.origin.Tie as tie
+use Rattle.pattern_course.proofs.Origins.{size-some, blocks-fewer, place-inside, origin-A, origin-B}
+use Rattle.pattern_course.proofs.unranking.origin.Statement.{statement}
+use Rattle.pattern_course.proofs.unranking.origin.Tie as tie
 
 -- blocks have some patterns
 some : (c : tie.After-parts-of) → 0 < c .parts-of .result .0 + c .parts-of .result .1

@@ -1,4 +1,4 @@
--- `pattern_ranks::unranking::course_of` meets its contract: each turn writes the level that the rank names. The loop's invariant: the levels above m are those on
+-- `pattern_course::unranking::course_of` meets its contract: each turn writes the level that the rank names. The loop's invariant: the levels above m are those on
 -- the way down to the rank that is left.
 -- Assumes nothing.
 use mathlib.Core.Path.{_≡_, refl}
@@ -9,11 +9,11 @@ use borrow.Author.Needs.{needs}
 use Rattle.listing.specs.Limits.{mostPorts}
 use Rattle.listing_course.specs.Course.{Traced}
 use Rattle.listing_course.proofs.Courses.{traced-start, traced-end}
-use Rattle.pattern_ranks.specs.declared.types.Origin.{Origin}
-use Rattle.pattern_ranks.proofs.Origins.{two-ports, Makes, origin-makes}
-use Rattle.pattern_ranks.proofs.Ways.{down-A, down-B}
-use Rattle.pattern_ranks.proofs.unranking.course_of.Statement.{statement}
-use Rattle.pattern_ranks.proofs.unranking.course_of.Tie as tie
+use Rattle.pattern_course.specs.declared.types.Origin.{Origin}
+use Rattle.pattern_course.proofs.Origins.{two-ports, Makes, origin-makes}
+use Rattle.pattern_course.proofs.Ways.{down-A, down-B}
+use Rattle.pattern_course.proofs.unranking.course_of.Statement.{statement}
+use Rattle.pattern_course.proofs.unranking.course_of.Tie as tie
 
 abbrev Inv-loop : tie.InvT-loop
 Inv-loop n rank levels₀ m₀ left₀ levels m left = (length levels ≡ mostPorts) × Traced n rank levels m left

@@ -1,4 +1,4 @@
--- `pattern_ranks::unranking::put_course` meets its contract: each turn makes the step of the next level that is met. The loop's invariant: the buffer begins with
+-- `pattern_course::unranking::put_course` meets its contract: each turn makes the step of the next level that is met. The loop's invariant: the buffer begins with
 -- the pattern of m ports of the course.
 -- Assumes nothing.
 use mathlib.Core.Path.{_≡_, refl, sym, ap, _∙_}
@@ -9,9 +9,9 @@ use lib.Seq.{take-all}
 use borrow.Author.Needs.{needs}
 use Rattle.listing_course.specs.Course.{built, Course}
 use Rattle.listing_course.proofs.Courses.{course-none}
-use Rattle.pattern_ranks.proofs.Ways.{front-pattern, next-A, made-A, next-B, made-B}
-use Rattle.pattern_ranks.proofs.unranking.put_course.Statement.{statement}
-use Rattle.pattern_ranks.proofs.unranking.put_course.Tie as tie
+use Rattle.pattern_course.proofs.Ways.{front-pattern, next-A, made-A, next-B, made-B}
+use Rattle.pattern_course.proofs.unranking.put_course.Statement.{statement}
+use Rattle.pattern_course.proofs.unranking.put_course.Tie as tie
 
 abbrev Inv-loop : tie.InvT-loop
 Inv-loop out₀ levels n m₀ out m = (m ≤ length out₀) × (length out ≡ length out₀) × Course levels m × (take m out ≡ built levels m)

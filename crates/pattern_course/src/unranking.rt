@@ -14,10 +14,10 @@ ghost use Rattle.listing.specs.Count.{count};
 ghost use Rattle.listing.specs.Listing.{at};
 ghost use Rattle.listing.specs.Limits.{mostPorts};
 ghost use Rattle.listing_course.specs.Course.{built, Course, CourseOf};
-ghost use Rattle.pattern_ranks.specs.Levels.{originOf};
+ghost use Rattle.pattern_course.specs.Origin.{originOf};
 
 // The step that makes the pattern of a rank, and the rank of the shorter pattern.
-pub fn origin(n: u8, rank: u64) -> Origin
+fn origin(n: u8, rank: u64) -> Origin
     requires { ⌜ (2 ≤ n) × (n ≤ mostPorts) × (rank < count n) ⌝ }
     ensures { λ r. ⌜ r ≡ originOf n rank ⌝ }
 {
@@ -32,7 +32,7 @@ pub fn origin(n: u8, rank: u64) -> Origin
     }
 }
 
-// The course of the pattern of a rank, from the last level down.
+// The course of the pattern of a rank, from the last level down: the number of level k at place k - 1, and 0 for a level that B passes over.
 fn course_of(n: u8, rank: u64) -> [u8; LONGEST]
     requires { ⌜ (n ≤ mostPorts) × (rank < count n) ⌝ }
     ensures { λ r. ⌜ CourseOf n rank r ⌝ }
@@ -59,7 +59,7 @@ fn course_of(n: u8, rank: u64) -> [u8; LONGEST]
     levels
 }
 
-// The pattern of a course fills the lent slice, from the shortest pattern up.
+// The pattern of a course fills the lent slice, from the shortest pattern up: by B over a level that is passed over, else by A.
 fn put_course(levels: [u8; LONGEST], out: &mut [u8])
     requires { ⌜ (length (now out) ≤ mostPorts) × Course levels (length (now out)) ⌝ }
     ensures { λ _. ⌜ now (out .exit) ≡ built levels (length (now (out .entry))) ⌝ }

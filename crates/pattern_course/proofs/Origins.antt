@@ -17,9 +17,9 @@ use Rattle.listing.proofs.Numbers.{either, below?}
 use Rattle.listing.proofs.Places.{turned-below}
 use Rattle.listing.proofs.Ranks.{perBlock-pos, block-among}
 use Rattle.listing.proofs.Unranks.{unrank-at}
-use Rattle.pattern_ranks.specs.Levels.{originIn, originOf}
-use Rattle.pattern_ranks.specs.declared.types.Origin.{Origin}
-use Rattle.pattern_ranks.specs.declared.types.Origin.the-variants.{ByA, ByB}
+use Rattle.pattern_course.specs.Origin.{originIn, originOf}
+use Rattle.pattern_course.specs.declared.types.Origin.{Origin}
+use Rattle.pattern_course.specs.declared.types.Origin.the-variants.{ByA, ByB}
 use Rattle.listing.proofs.Numbers.{less-one}
 
 -- where there is a rank and a port there are two

@@ -1,9 +1,9 @@
--- `pattern_ranks::unranking::put_pattern` meets its contract: the course of the rank makes its pattern.
+-- `pattern_course::unranking::put_pattern` meets its contract: the course of the rank makes its pattern.
 -- Assumes nothing.
 use mathlib.Core.Path.{_∙_}
 use borrow.Author.Needs.{needs}
-use Rattle.pattern_ranks.proofs.unranking.put_pattern.Statement.{statement}
-use Rattle.pattern_ranks.proofs.unranking.put_pattern.Tie as tie
+use Rattle.pattern_course.proofs.unranking.put_pattern.Statement.{statement}
+use Rattle.pattern_course.proofs.unranking.put_pattern.Tie as tie
 
 put-course-requires : tie.Need-put-course-requires
 put-course-requires c κs = let f = c .before in (f .before .before .pre .0, f .course-of .ensures .course)
