@@ -29,6 +29,10 @@ pub entry-take : (n : ℕ) (a : List ℕ) (j : ℕ) → j ≤ n → entry (take 
 entry-take n a zero h = refl
 entry-take n a (suc j) h = getD-take n a j 0 h
 
+-- so what an array has at the place below a jack is the entry of its front
+pub entry-front : (n : ℕ) (a : List ℕ) (j : ℕ) → Among n j → getD a (j - 1) 0 ≡ entry (take n a) j
+entry-front n a j h = entry-below a j (h .0) ∙ sym (entry-take n a j (h .1))
+
 -- after a store: the entry that was stored, and the others
 pub entry-same : (a : List ℕ) (k v : ℕ) → k < length a → entry (set a k v) (suc k) ≡ v
 entry-same a k v h = getD-set-same a k v 0 h

@@ -31,7 +31,7 @@ course-none c = record { below = λ k h. absurd (omega arith); apart = λ k b h.
 last-fits : {c : List ℕ} {m : ℕ} → Course c (suc (suc m)) → Among (suc m) (entry c (suc (suc m)))
 last-fits {c = c} {m = m} C = omega (arith, C .below (suc (suc m)) (omega arith), C .met (omega arith))
 
--- the front up to the level below, where that is met, and up to the one below it, where it is passed over
+-- the front up to the level below, where that is met, and up to the one below it, where it is skipped
 met-front : {c : List ℕ} {m : ℕ} → Course c (suc (suc m)) → entry c (suc m) ≢ 0 → Course c (suc m)
 met-front C d = course-front C (omega arith) (λ h. d)
 
@@ -40,7 +40,7 @@ below-front {m = m} C e = course-front C (omega arith) (λ h z. C .apart m h (om
 
 -- ---- the pattern
 
--- by B over a level that is passed over, by A over one that is met
+-- by B over a level that is skipped, by A over one that is met
 built-B : (c : List ℕ) (m : ℕ) → entry c (suc m) ≡ 0 → built c (suc (suc m)) ≡ stepB (suc (suc m)) (entry c (suc (suc m))) (built c m)
 unfolding built
 built-B c m e = rw (eq-eqb (entry c (suc m)) 0 e)
@@ -83,7 +83,7 @@ last-once c d m v w C D e ec Bc ed Bd =
     made-once m v w (entry c (suc (suc m))) (entry d (suc (suc m))) (built c (shorter v (suc (suc m)))) (built d (shorter w (suc (suc m)))) (last-fits C) (last-fits D)
     (built-pattern c (shorter v (suc (suc m))) Bc) (built-pattern d (shorter w (suc (suc m))) Bd) (sym ec ∙ e ∙ ed)
 
--- a pattern has one course: two that make it choose the same at every level
+-- a pattern has no second course: two that make it choose the same at every level
 pub only-course : (c d : List ℕ) (n : ℕ) → Course c n → Course d n → built c n ≡ built d n → (k : ℕ) → Among n k → entry c k ≡ entry d k
 only-course c d =
     shorter-first (λ n. Course c n → Course d n → built c n ≡ built d n → (k : ℕ) → Among n k → entry c k ≡ entry d k)
@@ -116,7 +116,7 @@ up-A {c = c} {m = suc m} C B h d =
     let D = course-front C h (λ l. d) in
     (D, last-fits D, built-A c m (B .met (omega arith)))
 
--- if it is passed over, the one above it is not, and its step is B
+-- if it is skipped, the one above it is not, and its step is B
 pub up-B : {c : List ℕ} {n m : ℕ} → Course c n → m < n → entry c (suc m) ≡ 0
     → (suc m < n) × Course c (suc (suc m)) × Among (suc m) (entry c (suc (suc m))) × (built c (suc (suc m)) ≡ stepB (suc (suc m)) (entry c (suc (suc m))) (built c m))
 up-B {c = c} {n = n} {m = m} C h e =
@@ -149,12 +149,12 @@ on-B {c = c} {m = m} C z fits =
 -- ---- down from a rank
 
 -- at first nothing is chosen
-pub traced-start : {n r : ℕ} (c : List ℕ) → r < count n → Traced n r c n r
+pub traced-start : {n r : ℕ} (c : List ℕ) → r < count n → Traced c n r n r
 traced-start c h = record { most = omega arith; below = h; whole = λ d C same. C }
 
-module _ {n r0 m r i s : ℕ} (c : List ℕ) (T : Traced n r0 c (suc (suc m)) r) (room : n ≤ length c) (fits : Among (suc m) i) where
+module _ {n r0 m r i s : ℕ} (c : List ℕ) (T : Traced c n r0 (suc (suc m)) r) (room : n ≤ length c) (fits : Among (suc m) i) where
   -- the level is that of a step by A
-  pub traced-A : s < count (suc m) → stepA (suc (suc m)) i (at (suc m) s) ≡ at (suc (suc m)) r → Traced n r0 (set c (suc m) i) (suc m) s
+  pub traced-A : s < count (suc m) → stepA (suc (suc m)) i (at (suc m) s) ≡ at (suc (suc m)) r → Traced (set c (suc m) i) n r0 (suc m) s
   traced-A b e =
       let top = T .most in
       record {
@@ -170,8 +170,8 @@ module _ {n r0 m r i s : ℕ} (c : List ℕ) (T : Traced n r0 c (suc (suc m)) r)
             (λ k h l. same k (omega arith) l ∙ entry-other c (suc m) i k (omega arith));
       }
 
-  -- or by B, which passes the level below over
-  pub traced-B : s < count m → stepB (suc (suc m)) i (at m s) ≡ at (suc (suc m)) r → Traced n r0 (set (set c (suc m) i) m 0) m s
+  -- or by B, which skips the level below
+  pub traced-B : s < count m → stepB (suc (suc m)) i (at m s) ≡ at (suc (suc m)) r → Traced (set (set c (suc m) i) m 0) n r0 m s
   traced-B b e =
       let top = T .most in
       let c′ = set c (suc m) i in
@@ -191,7 +191,7 @@ module _ {n r0 m r i s : ℕ} (c : List ℕ) (T : Traced n r0 c (suc (suc m)) r)
       }
 
 -- with no ports left the course is that of the rank
-pub traced-end : {n r0 m r : ℕ} (c : List ℕ) → Traced n r0 c m r → m ≡ 0 → CourseOf n r0 c
+pub traced-end : {n r0 m r : ℕ} (c : List ℕ) → Traced c n r0 m r → m ≡ 0 → CourseOf c n r0
 unfolding built count at listing
 traced-end {r = r} c T e =
     let b = rw e at (T .below) in

@@ -7,7 +7,7 @@ use Prim.Native.Nat.{ℕ, suc, _≤_, _<_}
 use native.Mathlib.Omega.{arith}
 use lib.ListN.{length, take, set, length-set}
 use lib.Seq.{length-take-le}
-use Rattle.listing.specs.Numbers.{Among, before, is, trade, raise, lower}
+use Rattle.listing.specs.Numbers.{Among, is, trade, raise, lower}
 use Rattle.listing.specs.Pattern.{entry, tabulate, Permutation}
 use Rattle.listing.specs.Steps.{stepA, stepB, unB, byStepA, byStepB, byBackB}
 use Rattle.listing.proofs.Numbers.{either, same?, is-same, is-cases, trade-cases, raise-near, lower-cases, lower-among}

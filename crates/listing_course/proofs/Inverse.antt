@@ -1,4 +1,4 @@
--- The inverse beside a pattern: it tells the letter; A and B are taken back on both at once; and it is filled in one pass.
+-- A pattern with its inverse: it tells the letter; A and B are taken back on both at once; and it is filled in one pass.
 -- Assumes nothing.
 use mathlib.Core.Path.{_≡_, sym, ap, _∙_}
 use mathlib.Core.Logic.{_≢_}
@@ -15,7 +15,7 @@ use Rattle.listing.proofs.Numbers.{either, same?, trade-cases, raise-near, rais
 use Rattle.listing.proofs.Panels.{entry-take, entry-same, entry-other, length-tabulate, entry-tabulate}
 use Rattle.listing.proofs.Onto.{stands}
 use Rattle.listing.proofs.Shorter.{letter-back}
-use Rattle.listing_course.specs.InPlace.{Inverse, Inverted, Beside}
+use Rattle.listing_course.specs.InPlace.{Inverse, Inverted, WithInverse}
 use Rattle.listing_course.proofs.InPlace.{front}
 
 -- ---- the inverse
@@ -46,7 +46,7 @@ module _ {n : ℕ} {p q : List ℕ} (D : Derangement n p) (I : Inverse n p q) (h
 
 -- ---- back from A, on both: i where p holds n, and the jack that held n as that of i
 
-module _ {m : ℕ} (a b : List ℕ) (x y : ℕ) (s : Beside (suc (suc m)) a b) (ends : suc x ≡ entry a (suc (suc m))) (holds : suc y ≡ entry b (suc (suc m)))
+module _ {m : ℕ} (a b : List ℕ) (x y : ℕ) (s : WithInverse (suc (suc m)) a b) (ends : suc x ≡ entry a (suc (suc m))) (holds : suc y ≡ entry b (suc (suc m)))
     (far : x ≢ y) (room : suc (suc m) ≤ length a) (room-back : suc (suc m) ≤ length b) where
   abbrev n : ℕ
   n = suc (suc m)
@@ -112,7 +112,7 @@ module _ {m : ℕ} (a b : List ℕ) (x y : ℕ) (s : Beside (suc (suc m)) a b) (
       (entry-take (suc m) (set b x (suc y)) (entry p j) (omega arith) ∙ entry-other b x (suc y) (entry p j) d
       ∙ sym (entry-take n b (entry p j) (hj .1)) ∙ s .inverse .back j (omega arith))))
 
-  pub back-A : (letter n p ≡ byA) × (take (suc m) (set a y (suc x)) ≡ unA n p) × Beside (suc m) (set a y (suc x)) (set b x (suc y))
+  pub back-A : (letter n p ≡ byA) × (take (suc m) (set a y (suc x)) ≡ unA n p) × WithInverse (suc m) (set a y (suc x)) (set b x (suc y))
   back-A =
       let D = rw letter-is at (letter-back m p (s .pattern) .0) in (
         letter-is,
@@ -145,9 +145,9 @@ unB-inverse m {p = p} {q = q} D I e E =
           ∙ rw e (ap (λ (v : ℕ). lower i (entry q v)) up ∙ ap (lower i) (I .back (raise i j) (omega arith)) ∙ lower-raise i j);
     }
 
-pub back-B : {m : ℕ} (a b a′ b′ : List ℕ) → Beside (suc (suc m)) a b → entry b (suc (suc m)) ≡ entry a (suc (suc m))
+pub back-B : {m : ℕ} (a b a′ b′ : List ℕ) → WithInverse (suc (suc m)) a b → entry b (suc (suc m)) ≡ entry a (suc (suc m))
     → take m a′ ≡ unB (suc (suc m)) (take (suc (suc m)) a) → take m b′ ≡ unB (suc (suc m)) (take (suc (suc m)) b)
-    → (letter (suc (suc m)) (take (suc (suc m)) a) ≡ byB) × Beside m a′ b′
+    → (letter (suc (suc m)) (take (suc (suc m)) a) ≡ byB) × WithInverse m a′ b′
 back-B {m = m} a b a′ b′ s e ea eb =
     let n = suc (suc m) in
     let same : entry (take n b) n ≡ entry (take n a) n = entry-take n b n (omega arith) ∙ e ∙ sym (entry-take n a n (omega arith)) in
@@ -168,7 +168,7 @@ inverted-on p b j k P I h e room x hx =
     entry-other b k (suc j) (entry p x) other ∙ I x (omega arith))
 
 -- after the last jack: a pattern in one array, and its inverse in the other
-pub inverted-end : {n : ℕ} (a b : List ℕ) → Derangement n (take n a) → Inverted (take n a) n b → n ≤ length b → Beside n a b
+pub inverted-end : {n : ℕ} (a b : List ℕ) → Derangement n (take n a) → Inverted (take n a) n b → n ≤ length b → WithInverse n a b
 inverted-end {n = n} a b D I room =
     record {
       pattern = D;

@@ -1,4 +1,4 @@
--- A course, worked out: 54231 ends in 1 and came by B, so level 4 is passed over; 312 ends in 2 and came by A; 21 ends in 1 and came by B.
+-- A course, worked out: 54231 ends in 1 and came by B, so level 4 is skipped; 312 ends in 2 and came by A; 21 ends in 1 and came by B.
 -- Assumes nothing.
 use mathlib.Core.Path.{_≡_, refl}
 use mathlib.Core.List.{List, [], _∷_}

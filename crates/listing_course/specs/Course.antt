@@ -1,5 +1,5 @@
--- The course of a pattern: what each level chose on the way from the shortest pattern up to it (Definition 1 of document 000; the paper, 'The list'). It is a
--- list with one number for each level, level 1 first: the entry at the last jack of the pattern with so many ports, or 0 where a step by B passes the level over.
+-- The course of a pattern: what each level chose on the way from the empty pattern up to it (Definition 1 of document 000; the paper, 'The list'). It is a list
+-- with one number for each level, level 1 first: the entry at the last jack of the pattern with so many ports, or 0 where a step by B skips the level.
 -- Assumes nothing.
 use Prim.Native.Nat.{ℕ, zero, suc, _≤_, _<_}
 use mathlib.Core.Path.{_≡_}
@@ -13,7 +13,7 @@ use Rattle.listing.specs.Count.{count}
 use Rattle.listing.specs.Steps.{stepA, stepB}
 use Rattle.listing.specs.Listing.{at}
 
--- the pattern of n ports that a course makes: by B if the level below is passed over, else by A
+-- the pattern of n ports that a course makes: by B if the level below is skipped, else by A
 unfoldable pub built : List ℕ → ℕ → List ℕ
 built c zero = []
 built c (suc zero) = []
@@ -21,20 +21,20 @@ built c (suc (suc m)) =
     let n = suc (suc m) in
     cond (eqb (entry c (suc m)) 0) (stepB n (entry c n) (built c m)) (stepA n (entry c n) (built c (suc m)))
 
--- c is a course up to n ports: the number of each level is below it, no two levels in turn are passed over, and the last is not
+-- c is a course up to n ports: the number of each level is below it, no two levels in turn are skipped, and the last is not
 pub record Course (c : List ℕ) (n : ℕ) : Type 0 where
   pub below : (k : ℕ) → Among n k → entry c k < k
   pub apart : (k : ℕ) → 1 ≤ k → k < n → entry c k ≡ 0 → entry c (suc k) ≢ 0
   pub met : 1 ≤ n → entry c n ≢ 0
 
 -- c is the course of the pattern of rank r
-pub record CourseOf (n r : ℕ) (c : List ℕ) : Type 0 where
+pub record CourseOf (c : List ℕ) (n r : ℕ) : Type 0 where
   pub course : Course c n
   pub makes : built c n ≡ at n r
 
 -- the levels above m are chosen on the way down from rank r0 of n ports, and rank r of m ports is left: every course that makes the pattern of rank r, with the
 -- numbers above m as they stand, is that of r0
-pub record Traced (n r0 : ℕ) (c : List ℕ) (m r : ℕ) : Type 0 where
+pub record Traced (c : List ℕ) (n r0 m r : ℕ) : Type 0 where
   pub most : m ≤ n
   pub below : r < count m
-  pub whole : (d : List ℕ) → CourseOf m r d → ((k : ℕ) → m < k → k ≤ n → entry d k ≡ entry c k) → CourseOf n r0 d
+  pub whole : (d : List ℕ) → CourseOf d m r → ((k : ℕ) → m < k → k ≤ n → entry d k ≡ entry c k) → CourseOf d n r0

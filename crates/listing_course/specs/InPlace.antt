@@ -1,4 +1,4 @@
--- The steps A and B, and the steps back, in one lent array, jack 1 first: what stands in it between two stores; and the inverse beside a pattern.
+-- The steps A and B, and the steps back, in one lent array, jack 1 first: what stands in it between two stores; and a pattern with its inverse.
 -- Assumes nothing.
 use Prim.Native.Nat.{ℕ, _≤_, _<_}
 use mathlib.Core.Path.{_≡_}
@@ -13,11 +13,11 @@ pub record Changing (g : ℕ → ℕ) (t : List ℕ) (Done Left : ℕ → Type 0
   pub done : (x : ℕ) → Done x → entry a x ≡ g x
   pub left : (x : ℕ) → Left x → entry a x ≡ entry t x
 
--- B(i) to n ports, from the last jack down: the jacks above j are done
+-- B(i) to n ports from t, from the last jack down: the jacks above j are done, and of those up to j the ones that t has are left
 abbrev pub Raising : ℕ → ℕ → List ℕ → ℕ → List ℕ → Type 0
 Raising n i t j a = Changing (byStepB n i t) t (λ x. (j < x) × (x ≤ n)) (λ x. (x ≤ j) × (x ≤ before (before n))) a
 
--- back from B of n ports, from the first jack on: j jacks are done
+-- back from B of n ports, from the first jack on: j jacks are done, and those after them are left
 abbrev pub Lowering : ℕ → List ℕ → ℕ → List ℕ → Type 0
 Lowering n p j a = Changing (byBackB n p) p (λ x. Among j x) (λ x. (j < x) × (x ≤ n)) a
 
@@ -31,6 +31,6 @@ abbrev pub Inverted : List ℕ → ℕ → List ℕ → Type 0
 Inverted p j b = (x : ℕ) → Among j x → entry b (entry p x) ≡ x
 
 -- the array a begins with a pattern of n ports, and the array b with its inverse
-pub record Beside (n : ℕ) (a b : List ℕ) : Type 0 where
+pub record WithInverse (n : ℕ) (a b : List ℕ) : Type 0 where
   pub pattern : Derangement n (take n a)
   pub inverse : Inverse n (take n a) (take n b)

@@ -12,7 +12,7 @@ use Rattle.listing.specs.Numbers.{Among}
 use Rattle.listing.specs.Pattern.{entry}
 use Rattle.listing.proofs.Numbers.{either, same?}
 use Rattle.pattern_carry.specs.Panels.{wrongFrom}
-use Rattle.pattern_carry.proofs.Filling.{entry-front}
+use Rattle.listing.proofs.Panels.{entry-front}
 
 -- ---- jack by jack
 

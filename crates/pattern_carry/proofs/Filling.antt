@@ -9,13 +9,8 @@ use lib.ListN.{length, take, getD, set}
 use lib.Seq.{take-suc, take-suc-set, take-all, take-length, length-take-le}
 use Rattle.listing.specs.Numbers.{Among}
 use Rattle.listing.specs.Pattern.{entry, tabulate}
-use Rattle.listing.proofs.Panels.{entry-below, entry-take}
 use Rattle.words.specs.Padded.{padded}
 use Rattle.words.proofs.Padded.{padded-set}
-
--- the entry at a jack of a panel in an array
-pub entry-front : (n : ℕ) (p : List ℕ) (j : ℕ) → Among n j → getD p (j - 1) 0 ≡ entry (take n p) j
-entry-front n p j h = entry-below p j (h .0) ∙ sym (entry-take n p j (h .1))
 
 -- one jack more of a tabulated panel
 pub tabulate-more : (n : ℕ) (g : ℕ → ℕ) → tabulate (suc n) g ≡ tabulate n g ++ (g (suc n) ∷ [])

@@ -2,7 +2,6 @@
 -- Assumes nothing.
 use mathlib.Core.Path.{_≡_, refl, sym, ap, _∙_, subst}
 use mathlib.Core.Logic.{_≢_}
-use mathlib.Core.List.{List}
 use Prim.Native.Nat.{ℕ, zero, suc, _+_, _-_, _/_, _%_, _≤_, _<_}
 use native.Mathlib.Nat.{mod-lt, not-suc-le-zero}
 use native.Mathlib.Numerals.{add-one}
@@ -13,14 +12,13 @@ use Rattle.listing.specs.Count.{count}
 use Rattle.listing.specs.Steps.{stepA, stepB}
 use Rattle.listing.specs.Listing.{at}
 use Rattle.listing.specs.Rank.{fromEnd, perBlock, turned, unrank}
-use Rattle.listing.proofs.Numbers.{either, below?}
+use Rattle.listing.proofs.Numbers.{either, below?, less-one}
 use Rattle.listing.proofs.Places.{turned-below}
 use Rattle.listing.proofs.Ranks.{perBlock-pos, block-among}
 use Rattle.listing.proofs.Unranks.{unrank-at}
 use Rattle.pattern_course.specs.Origin.{originIn, originOf}
 use Rattle.pattern_course.specs.declared.types.Origin.{Origin}
 use Rattle.pattern_course.specs.declared.types.Origin.the-variants.{ByA, ByB}
-use Rattle.listing.proofs.Numbers.{less-one}
 
 -- where there is a rank and a port there are two
 pub two-ports : {n r : ℕ} → n ≢ 0 → r < count n → 2 ≤ n

@@ -19,20 +19,20 @@ use Rattle.pattern_course.proofs.Origins.{Makes}
 -- ---- down
 
 -- the level that a rank names is written, by A
-pub down-A : {n r0 : ℕ} (m r i s : ℕ) (c : List ℕ) → 2 ≤ m → Traced n r0 c m r → n ≤ length c → Makes m r (ByA i s) → Traced n r0 (set c (m - 1) i) (m - 1) s
+pub down-A : {n r0 : ℕ} (m r i s : ℕ) (c : List ℕ) → 2 ≤ m → Traced c n r0 m r → n ≤ length c → Makes m r (ByA i s) → Traced (set c (m - 1) i) n r0 (m - 1) s
 down-A {n = n} {r0 = r0} m r i s c two =
-    from-two (λ m. Traced n r0 c m r → n ≤ length c → Makes m r (ByA i s) → Traced n r0 (set c (m - 1) i) (m - 1) s)
+    from-two (λ m. Traced c n r0 m r → n ≤ length c → Makes m r (ByA i s) → Traced (set c (m - 1) i) n r0 (m - 1) s)
     (λ k T room made.
     let z : suc (suc k) - 1 ≡ suc k = omega arith in
     let o = rw z at made in
     rw z (traced-A c T room (o .0) (o .1) (o .2)))
     m two
 
--- and by B, with 0 for the level that is passed over
-pub down-B : {n r0 : ℕ} (m r i s : ℕ) (c : List ℕ) → 2 ≤ m → Traced n r0 c m r → n ≤ length c → Makes m r (ByB i s)
-    → Traced n r0 (set (set c (m - 1) i) (m - 1 - 1) 0) (m - 2) s
+-- and by B, with 0 for the level that is skipped
+pub down-B : {n r0 : ℕ} (m r i s : ℕ) (c : List ℕ) → 2 ≤ m → Traced c n r0 m r → n ≤ length c → Makes m r (ByB i s)
+    → Traced (set (set c (m - 1) i) (m - 1 - 1) 0) n r0 (m - 2) s
 down-B {n = n} {r0 = r0} m r i s c two =
-    from-two (λ m. Traced n r0 c m r → n ≤ length c → Makes m r (ByB i s) → Traced n r0 (set (set c (m - 1) i) (m - 1 - 1) 0) (m - 2) s)
+    from-two (λ m. Traced c n r0 m r → n ≤ length c → Makes m r (ByB i s) → Traced (set (set c (m - 1) i) (m - 1 - 1) 0) n r0 (m - 2) s)
     (λ k T room made.
     let z : suc (suc k) - 1 ≡ suc k = omega arith in
     let y : suc k - 1 ≡ k = omega arith in
@@ -56,7 +56,7 @@ module _ {n m : ℕ} (c out : List ℕ) (C : Course c n) (B : Course c m) (e : t
       → Course c (m + 1) × (take (m + 1) u ≡ built c (m + 1))
   made-A d u f = let s = up-A C B h d in rw add-one (s .0, f ∙ ap (stepA (suc m) (getD c m 0)) e ∙ sym (s .2))
 
-  -- it is passed over: B
+  -- it is skipped: B
   pub next-B : getD c m 0 ≡ 0 → (suc m < n) × Among (suc m) (getD c (m + 1) 0)
   next-B z = let s = up-B C h z in rw add-one (s .0, s .2)
 

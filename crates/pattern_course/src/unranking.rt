@@ -32,10 +32,10 @@ fn origin(n: u8, rank: u64) -> Origin
     }
 }
 
-// The course of the pattern of a rank, from the last level down: the number of level k at place k - 1, and 0 for a level that B passes over.
+// The course of the pattern of a rank, from the last level down: the number of level k at place k - 1, and 0 for a level that B skips.
 fn course_of(n: u8, rank: u64) -> [u8; LONGEST]
     requires { ⌜ (n ≤ mostPorts) × (rank < count n) ⌝ }
-    ensures { λ r. ⌜ CourseOf n rank r ⌝ }
+    ensures { λ r. ⌜ CourseOf r n rank ⌝ }
 {
     let mut levels = [0u8; LONGEST];
     let mut m = n;
@@ -49,6 +49,7 @@ fn course_of(n: u8, rank: u64) -> [u8; LONGEST]
                 m -= 1;
             }
             Origin::ByB(i, s) => {
+                // B skips the level below
                 levels[last] = i;
                 levels[last - 1] = 0;
                 left = s;
@@ -59,7 +60,7 @@ fn course_of(n: u8, rank: u64) -> [u8; LONGEST]
     levels
 }
 
-// The pattern of a course fills the lent slice, from the shortest pattern up: by B over a level that is passed over, else by A.
+// The pattern of a course fills the lent slice, from the empty pattern up: by B over a level that is skipped, else by A.
 fn put_course(levels: [u8; LONGEST], out: &mut [u8])
     requires { ⌜ (length (now out) ≤ mostPorts) × Course levels (length (now out)) ⌝ }
     ensures { λ _. ⌜ now (out .exit) ≡ built levels (length (now (out .entry))) ⌝ }

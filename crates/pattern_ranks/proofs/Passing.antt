@@ -107,7 +107,7 @@ pub level-of : {forward : Bool} {n : ℕ} {t a b : List ℕ} {c : Came} (l : Lev
     → LevelOf forward n t l a b
 level-of {forward = forward} {n = n} l h D s ex ef ek =
     let law = rw (← ex, ← ef, ← s .shown, ← ek) at (place-level forward h D (s .came)) in
-    record { fewer = law .0; long = s .long; long-back = s .long-back; beside = rw ek (s .beside); place = law .2 }
+    record { fewer = law .0; long = s .long; long-back = s .long-back; arrays = rw ek (s .arrays); place = law .2 }
 
 -- the pattern with no ports has place 0
 pub place-none : (forward : Bool) (n x : ℕ) (p : List ℕ) → n ≡ 0 → x ≡ x + turned forward (count n) (rank n p)
@@ -135,7 +135,7 @@ onward {forward = forward} {n = n} {x = x} {a₀ = a₀} {a = a} {l = l} here e 
             most = omega (arith, here .fewer, known .most);
             long = here .long;
             long-back = here .long-back;
-            beside = here .beside;
+            arrays = here .arrays;
             fits = rw (← ef) (omega (arith, here .place, known .fits));
           };
       place = λ ef ey. ey ∙ rw (← ef) (omega (arith, here .place));

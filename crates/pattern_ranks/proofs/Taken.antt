@@ -12,8 +12,8 @@ use Rattle.listing.specs.Pattern.{entry, Permutation}
 use Rattle.listing.specs.Steps.{unB}
 use Rattle.listing.specs.Limits.{mostPorts}
 use Rattle.listing.proofs.Numbers.{from-two}
-use Rattle.listing.proofs.Panels.{entry-take}
-use Rattle.listing_course.specs.InPlace.{Inverted, Beside}
+use Rattle.listing.proofs.Panels.{entry-take, entry-front}
+use Rattle.listing_course.specs.InPlace.{Inverted, WithInverse}
 use Rattle.listing_course.proofs.Inverse.{inverse-at, back-A, back-B, inverted-on}
 use Rattle.pattern_ranks.specs.Levels.{Peeled}
 use Rattle.pattern_ranks.specs.declared.types.Came.the-variants.{ByA, ByB}
@@ -34,9 +34,9 @@ inverted-turn p b j P room s h =
 -- ---- one level
 
 -- the partners of the last jack and of the last port
-pub ends : (n : ℕ) (a b : List ℕ) → 2 ≤ n → Beside n a b → Among n (getD a (n - 1) 0) × Among n (getD b (n - 1) 0)
+pub ends : (n : ℕ) (a b : List ℕ) → 2 ≤ n → WithInverse n a b → Among n (getD a (n - 1) 0) × Among n (getD b (n - 1) 0)
 ends n a b =
-    from-two (λ n. Beside n a b → Among n (getD a (n - 1) 0) × Among n (getD b (n - 1) 0))
+    from-two (λ n. WithInverse n a b → Among n (getD a (n - 1) 0) × Among n (getD b (n - 1) 0))
     (λ m s.
     let n = suc (suc m) in
     let z : n - 1 ≡ suc m = omega arith in
@@ -47,19 +47,13 @@ ends n a b =
     ))
     n
 
--- the entry at the last jack
-last : (m : ℕ) (a : List ℕ) → getD a (suc (suc m) - 1) 0 ≡ entry (take (suc (suc m)) a) (suc (suc m))
-last m a =
-    let z : suc (suc m) - 1 ≡ suc m = omega arith in
-    ap (λ (k : ℕ). getD a k 0) z ∙ sym (entry-take (suc (suc m)) a (suc (suc m)) (omega arith))
-
 -- by A
-pub taken-A : (n : ℕ) (a b : List ℕ) → 2 ≤ n → n ≤ mostPorts → length a ≡ mostPorts → length b ≡ mostPorts → Beside n a b
+pub taken-A : (n : ℕ) (a b : List ℕ) → 2 ≤ n → n ≤ mostPorts → length a ≡ mostPorts → length b ≡ mostPorts → WithInverse n a b
     → getD b (n - 1) 0 ≢ getD a (n - 1) 0
     → Peeled n (take n a) (ByA (getD a (n - 1) 0)) (set a (getD b (n - 1) 0 - 1) (getD a (n - 1) 0)) (set b (getD a (n - 1) 0 - 1) (getD b (n - 1) 0))
 taken-A n a b two =
     from-two
-    (λ n. n ≤ mostPorts → length a ≡ mostPorts → length b ≡ mostPorts → Beside n a b → getD b (n - 1) 0 ≢ getD a (n - 1) 0
+    (λ n. n ≤ mostPorts → length a ≡ mostPorts → length b ≡ mostPorts → WithInverse n a b → getD b (n - 1) 0 ≢ getD a (n - 1) 0
     → Peeled n (take n a) (ByA (getD a (n - 1) 0)) (set a (getD b (n - 1) 0 - 1) (getD a (n - 1) 0)) (set b (getD a (n - 1) 0 - 1) (getD b (n - 1) 0)))
     (λ m most la lb s d.
     let n = suc (suc m) in
@@ -73,25 +67,25 @@ taken-A n a b two =
     let ey : suc (y - 1) ≡ entry b n = sy ∙ ap (λ (k : ℕ). getD b k 0) z in
     let w = rw (sx, sy) at (back-A a b (x - 1) (y - 1) s ex ey (omega arith) (omega arith) (omega arith)) in
     record {
-      came = rw (w .0) (ap ByA (last m a));
+      came = rw (w .0) (ap ByA (entry-front n a n (omega arith)));
       long = simp length-set la;
       long-back = simp length-set lb;
       shown = w .1;
-      beside = w .2;
+      arrays = w .2;
     })
     n two
 
 -- by B
-pub taken-B : (n : ℕ) (a b a′ b′ : List ℕ) → 2 ≤ n → length a′ ≡ mostPorts → length b′ ≡ mostPorts → Beside n a b → getD b (n - 1) 0 ≡ getD a (n - 1) 0
+pub taken-B : (n : ℕ) (a b a′ b′ : List ℕ) → 2 ≤ n → length a′ ≡ mostPorts → length b′ ≡ mostPorts → WithInverse n a b → getD b (n - 1) 0 ≡ getD a (n - 1) 0
     → take (n - 2) a′ ≡ unB n (take n a) → take (n - 2) b′ ≡ unB n (take n b) → Peeled n (take n a) (ByB (getD a (n - 1) 0)) a′ b′
 taken-B n a b a′ b′ two =
     from-two
-    (λ n. length a′ ≡ mostPorts → length b′ ≡ mostPorts → Beside n a b → getD b (n - 1) 0 ≡ getD a (n - 1) 0
+    (λ n. length a′ ≡ mostPorts → length b′ ≡ mostPorts → WithInverse n a b → getD b (n - 1) 0 ≡ getD a (n - 1) 0
     → take (n - 2) a′ ≡ unB n (take n a) → take (n - 2) b′ ≡ unB n (take n b) → Peeled n (take n a) (ByB (getD a (n - 1) 0)) a′ b′)
     (λ m la lb s e ea eb.
     let n = suc (suc m) in
     let z : n - 1 ≡ suc m = omega arith in
     let y : n - 2 ≡ m = omega arith in
     let w = back-B a b a′ b′ s (rw z at e) (rw y at ea) (rw y at eb) in
-    record { came = rw (w .0) (ap ByB (last m a)); long = la; long-back = lb; shown = rw y at ea; beside = w .1 })
+    record { came = rw (w .0) (ap ByB (entry-front n a n (omega arith))); long = la; long-back = lb; shown = rw y at ea; arrays = w .1 })
     n two

@@ -20,7 +20,7 @@ ghost use Rattle.listing.specs.Rank.{fromEnd, rank};
 ghost use Rattle.listing.specs.Reading.{other, comesFirst, passed};
 ghost use Rattle.listing.specs.Limits.{mostPorts};
 ghost use Rattle.pattern_steps.specs.Blocks.{partOf};
-ghost use Rattle.listing_course.specs.InPlace.{Beside};
+ghost use Rattle.listing_course.specs.InPlace.{WithInverse};
 ghost use Rattle.pattern_ranks.specs.Levels.{letterOf, endOf, LevelOf, Placing};
 
 // Whether the patterns by a step are the first part of their block, in the list read forward or backward.
@@ -87,7 +87,7 @@ fn ports_below(c: Came, n: u8) -> u8
 
 // One level of the place of the pattern in p, whose inverse is in q, in the list read forward or backward. The shorter pattern is left there.
 fn level(forward: bool, p: &mut [u8; LONGEST], q: &mut [u8; LONGEST], n: u8) -> Level
-    requires { ⌜ (length (now p) ≡ mostPorts) × (length (now q) ≡ mostPorts) × (2 ≤ n) × (n ≤ mostPorts) × Beside n (now p) (now q) ⌝ }
+    requires { ⌜ (length (now p) ≡ mostPorts) × (length (now q) ≡ mostPorts) × (2 ≤ n) × (n ≤ mostPorts) × WithInverse n (now p) (now q) ⌝ }
     ensures { λ r. ⌜ LevelOf forward n (take n (now (p .entry))) r (now (p .exit)) (now (q .exit)) ⌝ }
 {
     let c = peel(p, q, n);

@@ -1,4 +1,4 @@
-// What one level hands on to the next.
+// What one level of a pattern tells.
 
 // The step that a pattern came by, with the entry at its last jack.
 pub enum Came {

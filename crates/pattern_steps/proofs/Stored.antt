@@ -11,7 +11,7 @@ use Rattle.listing.specs.Pattern.{entry, Permutation, Derangement}
 use Rattle.listing.specs.Steps.{byStepB, byBackB, stepA, unB}
 use Rattle.listing.specs.Limits.{mostPorts}
 use Rattle.listing.proofs.Numbers.{from-two, raise-near}
-use Rattle.listing.proofs.Panels.{entry-below, entry-take}
+use Rattle.listing.proofs.Panels.{entry-front}
 use Rattle.listing_course.specs.InPlace.{Raising, Lowering}
 use Rattle.listing_course.proofs.InPlace.{A-stored, changed, raising-port, lowering-start, lowering-port, lowering-end}
 use Rattle.pattern_check.specs.Faults.{seek}
@@ -34,7 +34,7 @@ module _ {m i j : ℕ} (a : List ℕ) (D : Derangement m (take m a)) (fits : Amo
 
   pub A-made : suc m ≤ length a → take (suc m) (set (set a (j - 1) (m + 1)) m i) ≡ stepA (suc m) i (take m a)
   A-made room =
-      let holds = entry-below a j (found .0 .0) ∙ sym (entry-take m a j (found .0 .1)) ∙ found .1 in
+      let holds = entry-front m a j (found .0) ∙ found .1 in
       rw add-one (A-stored a (j - 1) (D .permutation) room (omega (arith, found .0)) holds)
 
 -- ---- B(i)

@@ -1,7 +1,7 @@
 -- `pattern_carry::panels::port_at` meets its contract: jack j stands at index j - 1.
 -- Assumes nothing.
 use borrow.Author.Needs.{needs}
-use Rattle.pattern_carry.proofs.Filling.{entry-front}
+use Rattle.listing.proofs.Panels.{entry-front}
 use Rattle.pattern_carry.proofs.panels.port_at.Statement.{statement}
 use Rattle.pattern_carry.proofs.panels.port_at.Tie as tie
 

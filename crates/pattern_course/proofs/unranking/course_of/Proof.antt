@@ -16,7 +16,7 @@ use Rattle.pattern_course.proofs.unranking.course_of.Statement.{stateme
 use Rattle.pattern_course.proofs.unranking.course_of.Tie as tie
 
 abbrev Inv-loop : tie.InvT-loop
-Inv-loop n rank levels₀ m₀ left₀ levels m left = (length levels ≡ mostPorts) × Traced n rank levels m left
+Inv-loop n rank levels₀ m₀ left₀ levels m left = (length levels ≡ mostPorts) × Traced levels n rank m left
 
 abbrev μ-loop : tie.MeasureT-loop
 μ-loop n rank levels₀ m₀ left₀ levels m left = m

@@ -23,7 +23,7 @@ loop-holds : tie.Need-loop-holds Inv-loop μ-loop
 unfolding built
 loop-holds c = (search needs, refl, course-none _, refl)
 
--- over a level that is passed over there is one more
+-- over a level that is skipped there is one more
 over : (c : tie.Then1 Inv-loop μ-loop) → suc (c .before .before .loop .m) < length (c .before .before .before .before .args .out .now)
 over c =
     let l = c .before .before in

@@ -54,7 +54,7 @@ pub +place+place-back-spec : {M : Type 1} → statement M
     (λ t.
     place-lts.spec (calls t) (here t) place.Post
     (λ c. place-none true (c .before .args .n) _ _ (c .if1 .taken))
-    (λ c κs. let k = c .before .before .before .pre .1 in (k .long, k .long-back, two-jacks (c .before .before .if1 .left) (k .beside .pattern), k .most, k .beside))
+    (λ c κs. let k = c .before .before .before .pre .1 in (k .long, k .long-back, two-jacks (c .before .before .if1 .left) (k .arrays .pattern), k .most, k .arrays))
     (λ c. on t (c .before .before .before .before) .sum)
     (λ c κs. let o = on t (c .before .before .before .before) in (o .fewer, o .placing (c .before .before .before .if2 .taken)))
     (λ c. on t (c .before .before .before .before .before) .place (c .before .before .before .before .if2 .taken) (c .place .ensures))
@@ -64,7 +64,7 @@ pub +place+place-back-spec : {M : Type 1} → statement M
     (λ t.
     place-back-lts.spec (calls t) (here-back t) place-back.Post
     (λ c. place-none false (c .before .args .n) _ _ (c .if1 .taken))
-    (λ c κs. let k = c .before .before .before .pre .1 in (k .long, k .long-back, two-jacks (c .before .before .if1 .left) (k .beside .pattern), k .most, k .beside))
+    (λ c κs. let k = c .before .before .before .pre .1 in (k .long, k .long-back, two-jacks (c .before .before .if1 .left) (k .arrays .pattern), k .most, k .arrays))
     (λ c. on-back t (c .before .before .before .before) .sum)
     (λ c κs. let o = on-back t (c .before .before .before .before) in (o .fewer, o .placing (c .before .before .before .if2 .taken)))
     (λ c. on-back t (c .before .before .before .before .before) .place (c .before .before .before .before .if2 .taken) (c .place .ensures))

@@ -34,7 +34,7 @@ placing p a b h D e long I =
       most = h;
       long = rw e (padded-length mostPorts 0 p h);
       long-back = long;
-      beside = inverted-end a b (rw f D) (rw f I) (omega arith);
+      arrays = inverted-end a b (rw f D) (rw f I) (omega arith);
       fits = rw f (omega (arith, rank-below (length p) p D, count-most (length p) h));
     }
 

@@ -1,7 +1,7 @@
 -- `pattern_steps::steps::back_b` meets its contract: each turn writes one jack, from the first on. The loop's invariant: the first j jacks have the ports of
 -- the step back, and those after them still have their own.
 -- Assumes nothing.
-use mathlib.Core.Path.{_≡_, sym, _∙_}
+use mathlib.Core.Path.{_≡_}
 use Prim.Native.Nat.{_-_, _≤_}
 use native.Mathlib.Omega.{arith}
 use lib.ListN.{length, take, getD, length-set}
@@ -9,7 +9,7 @@ use borrow.Author.Needs.{needs}
 use Rattle.listing.specs.Pattern.{entry}
 use Rattle.listing.specs.Limits.{mostPorts}
 use Rattle.listing_course.specs.InPlace.{Lowering}
-use Rattle.listing.proofs.Panels.{entry-below, entry-take}
+use Rattle.listing.proofs.Panels.{entry-front}
 use Rattle.pattern_steps.proofs.Stored.{lowered-begin, lowered-on, lowered-done, from-jack}
 use Rattle.pattern_steps.proofs.steps.back_b.Statement.{statement}
 use Rattle.pattern_steps.proofs.steps.back_b.Tie as tie
@@ -24,7 +24,7 @@ loop-holds : tie.Need-loop-holds Inv-loop μ-loop
 loop-holds c =
     let s = c .before in
     let a = s .args in
-    (omega arith, s .pre .0, entry-below (a .p .now) (a .n) (omega arith) ∙ sym (entry-take (a .n) (a .p .now) (a .n) (omega arith)), lowered-begin (a .n) (a .p .now) (s .pre .1))
+    (omega arith, s .pre .0, entry-front (a .n) (a .p .now) (a .n) (omega arith), lowered-begin (a .n) (a .p .now) (s .pre .1))
 
 port-back-b-requires : tie.Need-port-back-b-requires Inv-loop μ-loop
 port-back-b-requires c κs =
