@@ -30,7 +30,8 @@ use Rattle.words.specs.Shape.{lineFits}
 use Rattle.line_format.specs.Reading.{fitting, numbersIn, numbersTold, keyed, lineIn, readOf}
 use Rattle.line_refusal.specs.Words.{wordsOf, refusalWordsOf, refusalWordsBytes}
 use Rattle.line_sentence.specs.Sentences.{sentenceOf, refusalSentenceOf, refusalSentenceBytes}
-use Rattle.promise.specs.Campaign.{Setting, movement, mark, theEnd, taken, refusal, Call, request, reportTo, reportOf, isError, todo, next, offer, standsFor, answer}
+use Rattle.promise.specs.Campaign.{Setting, movement, mark, theEnd, taken, refusal, Call, request, reportTo, reportOf}
+use Rattle.promise.specs.Campaign.{isError, todo, next, offer, standsFor, answer}
 use Rattle.promise.specs.Campaign as model
 use Rattle.campaign_state.specs.State.{settingOf, momentOf}
 use Rattle.campaign_state.specs.Fitness.{placesFit, fit}
@@ -72,7 +73,8 @@ check-numbers p = from-sized ofPattern mostPorts (length p) _ (inl refl) (fault-
 -- 1 and then 6
 ranked-numbers : {A : Type 0} (n r : ℕ) (a : A) → Refuses (1 ∷ 6 ∷ []) (ranked n r (accepted a))
 unfolding ranked
-ranked-numbers n r a = of-test (Refuses (1 ∷ 6 ∷ [])) (ltb r (count n)) _ _ (each-accepted (Listed (1 ∷ 6 ∷ [])) a) (from-refused (1 ∷ 6 ∷ []) 6 nowhere refl (inr (inl refl)))
+ranked-numbers n r a =
+    of-test (Refuses (1 ∷ 6 ∷ [])) (ltb r (count n)) _ _ (each-accepted (Listed (1 ∷ 6 ∷ [])) a) (from-refused (1 ∷ 6 ∷ []) 6 nowhere refl (inr (inl refl)))
 
 -- ---- the panel
 
@@ -148,7 +150,9 @@ named-numbers : (t old : List ℕ) → Refuses ofNamed (namedOf t old)
 unfolding namedOf fitted
 named-numbers t old =
     each-then (Listed ofNamed) (readPlanOf t) _ (with-more ofPlan (2 ∷ []) (readPlanOf t) (plan-numbers device 1 t))
-    (λ p. each-then (Listed ofNamed) _ _ (room-numbers ofNamed (inr (inr (inr (inr (inr (inr (inr (inl refl)))))))) (numbers (gapsOf p)) old) (λ n. each-accepted (Listed ofNamed) _))
+    (λ p.
+    each-then (Listed ofNamed) _ _ (room-numbers ofNamed (inr (inr (inr (inr (inr (inr (inr (inl refl)))))))) (numbers (gapsOf p)) old)
+    (λ n. each-accepted (Listed ofNamed) _))
 
 -- what is left where there is no room, and of a plan that is refused
 room-kept : {A : Type 0} (a : A) (room : Told ℕ) (made old : List ℕ) → Keeps (then room (λ n. accepted a)) (leaves room made old) old
@@ -208,7 +212,8 @@ request-numbers room s =
     of-test (RefusesAs ofRequest) (placesFit s) _ _
     (of-test (RefusesAs ofRequest) (not (model.fit C m)) _ _ (answer-refusal ofRequest 15 (inl refl))
     (of-test (RefusesAs ofRequest) (m .standing) _ _ (answer-refusal ofRequest 13 (inr (inl refl)))
-    (of-test (RefusesAs ofRequest) (ltb room (C .width (offer C m))) _ _ (answer-refusal ofRequest 2 (inr (inr (inl refl)))) (offer-numbers ofRequest (inl refl) C m))))
+    (of-test (RefusesAs ofRequest) (ltb room (C .width (offer C m))) _ _ (answer-refusal ofRequest 2 (inr (inr (inl refl))))
+    (offer-numbers ofRequest (inl refl) C m))))
     (answer-refusal ofRequest 15 (inl refl))
 
 report-numbers : (o : Option ℕ) (kind : ℕ) (s : State) → RefusesAs ofReport (answerOf (reportTo o kind) s)
@@ -274,7 +279,9 @@ resume-numbers s p =
     (λ k q e.
     let h = check-panel-numbers p k q e in
     (either (h .0) inl (λ h. either h (λ x. inr (inl x)) (λ h. either h (λ x. inr (inr (inl x))) absurd)), h .1))
-    (λ x. of-test (Refuses ofResume) (eqb (length p) (s .plan .ports) && fit (panelIn p s)) _ _ (each-accepted (Listed ofResume) tt) (from-refused ofResume 15 nowhere refl (inr (inr (inr (inl refl))))))
+    (λ x.
+    of-test (Refuses ofResume) (eqb (length p) (s .plan .ports) && fit (panelIn p s)) _ _ (each-accepted (Listed ofResume) tt)
+    (from-refused ofResume 15 nowhere refl (inr (inr (inr (inl refl))))))
 
 resume-kept : (s : State) (p : List ℕ) (k : ℕ) (q : Spot) → resumeOf s p ≡ refused k q → resumedOf s p ≡ s
 unfolding resumedOf
@@ -317,7 +324,10 @@ demand-one = record {
   resume = resume-numbers;
   resumeKeeps = resume-kept;
   rehearse = λ t. each-then (Listed ofPlan) _ _ (plan-numbers device 1 t) (λ p. each-accepted (Listed ofPlan) tt);
-  fill = λ room r k p e. (rehearsal-numbers room r k (refused-first room (stateOf r) k p e), λ d. fill-nowhere (length (linesIn room (stateOf r) .text)) (linesIn room (stateOf r) .stop) k p e);
+  fill = λ room r k p e. (
+    rehearsal-numbers room r k (refused-first room (stateOf r) k p e),
+    λ d. fill-nowhere (length (linesIn room (stateOf r) .text)) (linesIn room (stateOf r) .stop) k p e,
+  );
   fillKeeps = rehearsal-stays;
   fillBytesKeeps = λ r buf. line-bytes-stay (stateOf r) buf;
 }

@@ -10,6 +10,7 @@ use lib.Dec.{leb}
 use lib.ListN.{length, getD, List·getD-eq-default}
 use borrow.Author.Tests.{leb-true}
 use Rattle.words.specs.Told.{Told}
+use Rattle.words.proofs.LastArm.{NoneFrom, past}
 use Rattle.line_format.specs.Calls.{roomOf, roomBytes}
 use Rattle.line_refusal.specs.Words.{quoted, allWords, noWords, wordsOf, mostWords, refusalWordsOf, refusalWordsBytes}
 
@@ -51,20 +52,10 @@ words-plain number = of-each (λ s. each printed (quoted s)) allWords noWords nu
 
 -- ---- the call
 
--- n is none of the numbers below k
-abbrev pub NoneBelow : ℕ → ℕ → Type 0
-NoneBelow zero n = Unit {0}
-NoneBelow (suc k) n = NoneBelow k n × (n ≡ k → ⊥)
-
--- so it is k or more
-not-below : (k n : ℕ) → NoneBelow k n → k ≤ n
-not-below zero n h = omega arith
-not-below (suc k) n h = let le = not-below k n (h .0) in let ne = h .1 in omega arith
-
 -- 17 is the last number of a refusal
-past-words : (n : ℕ) → NoneBelow 18 n → wordsOf n ≡ quoted noWords
+past-words : (n : ℕ) → NoneFrom 0 18 n → wordsOf n ≡ quoted noWords
 unfolding wordsOf
-past-words n h = ap quoted (List·getD-eq-default allWords noWords (not-below 18 n h))
+past-words n h = ap quoted (List·getD-eq-default allWords noWords (past 0 18 n h (omega arith)))
 
 -- the call tells this, and leaves that
 abbrev pub TellsWords : ℕ → List ℕ → Told ℕ → List ℕ → Type 0
@@ -77,6 +68,6 @@ module _ (number : ℕ) (buf : List ℕ) {left : List ℕ} {told : Told ℕ} whe
   words-told k e h = rw e h
 
   -- the number is none of 0 to 17, and the words that say so are written
-  pub past-told : NoneBelow 18 number → (told ≡ roomOf (quoted noWords) buf) × (left ≡ roomBytes (quoted noWords) buf) → TellsWords number buf told left
+  pub past-told : NoneFrom 0 18 number → (told ≡ roomOf (quoted noWords) buf) × (left ≡ roomBytes (quoted noWords) buf) → TellsWords number buf told left
   unfolding refusalWordsOf refusalWordsBytes
   past-told n h = rw (past-words number n) h

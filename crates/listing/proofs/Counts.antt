@@ -1,8 +1,9 @@
 -- Laws of the count: its rule, that there is a pattern from 2 ports on, and that the count does not fall.
 -- Assumes nothing.
 use mathlib.Core.Path.{_≡_, refl}
+use mathlib.Core.Logic.{_≢_}
 use Prim.Native.Nat.{ℕ, zero, suc, _+_, _*_, _≤_, _<_}
-use native.Mathlib.Nat.{mul-le-mul-right, le-trans, le-refl}
+use native.Mathlib.Nat.{mul-le-mul-right, le-trans, le-refl, not-suc-le-zero}
 use native.Mathlib.Decide.{le-ind}
 use native.Mathlib.Omega.{arith}
 use lib.Dec.{lit<}
@@ -22,6 +23,13 @@ count-1 = refl
 pub count-2 : count 2 ≡ 1
 unfolding count
 count-2 = refl
+
+-- where there is a rank and a port there are two
+pub two-ports : {n r : ℕ} → n ≢ 0 → r < count n → 2 ≤ n
+unfolding count
+two-ports {n = zero} h l = absurd (h refl)
+two-ports {n = suc zero} h l = absurd (not-suc-le-zero l)
+two-ports {n = suc (suc m)} h l = omega arith
 
 -- the list is n - 1 blocks
 pub count-blocks : (m : ℕ) → count (suc (suc m)) ≡ suc m * perBlock (suc (suc m))

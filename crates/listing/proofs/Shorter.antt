@@ -46,11 +46,12 @@ back-step byB m i t fits D = unB-stepB m i t fits D
 
 -- ---- the letter
 
-letter-B : (m : ℕ) (p : List ℕ) (i : ℕ) → entry p (suc (suc m)) ≡ i → entry p i ≡ suc (suc m) → letter (suc (suc m)) p ≡ byB
+-- by B if jack i holds n, else by A
+pub letter-B : (m : ℕ) (p : List ℕ) (i : ℕ) → entry p (suc (suc m)) ≡ i → entry p i ≡ suc (suc m) → letter (suc (suc m)) p ≡ byB
 unfolding letter
 letter-B m p i last held = rw (last, eq-eqb (entry p i) (suc (suc m)) held)
 
-letter-A : (m : ℕ) (p : List ℕ) (i : ℕ) → entry p (suc (suc m)) ≡ i → entry p i ≢ suc (suc m) → letter (suc (suc m)) p ≡ byA
+pub letter-A : (m : ℕ) (p : List ℕ) (i : ℕ) → entry p (suc (suc m)) ≡ i → entry p i ≢ suc (suc m) → letter (suc (suc m)) p ≡ byA
 unfolding letter
 letter-A m p i last free = rw (last, ne-eqb (entry p i) (suc (suc m)) free)
 

@@ -1,8 +1,9 @@
--- Courses level by level. A course makes a pattern; up a course each step is that of the next level that is met; down from a rank each level is that of the rank.
+-- Courses level by level. A course makes a pattern, and no other course makes it; up a course each step is that of the next level that is met; down from a rank
+-- each level is that of the rank.
 -- Assumes nothing.
 use mathlib.Core.Path.{_≡_, refl, sym, ap, _∙_}
 use mathlib.Core.Logic.{_≢_}
-use mathlib.Core.List.{List}
+use mathlib.Core.List.{List, []}
 use Prim.Native.Nat.{ℕ, zero, suc, _≤_, _<_}
 use native.Mathlib.Omega.{arith}
 use lib.ListN.{length, set, length-set}
@@ -49,12 +50,20 @@ built-A : (c : List ℕ) (m : ℕ) → entry c (suc m) ≢ 0 → built c (suc (s
 unfolding built
 built-A c m d = rw (ne-eqb (entry c (suc m)) 0 d)
 
+-- the pattern with no ports
+none-pattern : Derangement 0 []
+none-pattern =
+    record {
+      permutation = record { long = refl; ports = λ j h. absurd (omega arith); apart = λ j k h. absurd (omega arith) };
+      moved = λ j h. absurd (omega arith);
+    }
+
 -- a course makes a pattern
 pub built-pattern : (c : List ℕ) (n : ℕ) → Course c n → Derangement n (built c n)
 unfolding built
 built-pattern c =
     shorter-first (λ n. Course c n → Derangement n (built c n))
-    (λ C. record { permutation = record { long = refl; ports = λ j h. absurd (omega arith); apart = λ j k h. absurd (omega arith) }; moved = λ j h. absurd (omega arith) })
+    (λ C. none-pattern)
     (λ C. absurd (omega (arith, C .below 1 (omega arith), C .met (omega arith))))
     (λ m shorter-ones C.
     either (same? (entry c (suc m)) 0)
@@ -80,8 +89,10 @@ last-once : (c d : List ℕ) (m : ℕ) (v w : Letter) → Course c (suc (suc m))
     → built d (suc (suc m)) ≡ step w (suc (suc m)) (entry d (suc (suc m))) (built d (shorter w (suc (suc m)))) → Course d (shorter w (suc (suc m)))
     → (v ≡ w) × (entry c (suc (suc m)) ≡ entry d (suc (suc m))) × (built c (shorter v (suc (suc m))) ≡ built d (shorter w (suc (suc m))))
 last-once c d m v w C D e ec Bc ed Bd =
-    made-once m v w (entry c (suc (suc m))) (entry d (suc (suc m))) (built c (shorter v (suc (suc m)))) (built d (shorter w (suc (suc m)))) (last-fits C) (last-fits D)
-    (built-pattern c (shorter v (suc (suc m))) Bc) (built-pattern d (shorter w (suc (suc m))) Bd) (sym ec ∙ e ∙ ed)
+    let n = suc (suc m) in
+    let k = shorter v n in
+    let l = shorter w n in
+    made-once m v w (entry c n) (entry d n) (built c k) (built d l) (last-fits C) (last-fits D) (built-pattern c k Bc) (built-pattern d l Bd) (sym ec ∙ e ∙ ed)
 
 -- a pattern has no second course: two that make it choose the same at every level
 pub only-course : (c d : List ℕ) (n : ℕ) → Course c n → Course d n → built c n ≡ built d n → (k : ℕ) → Among n k → entry c k ≡ entry d k
@@ -118,7 +129,8 @@ up-A {c = c} {m = suc m} C B h d =
 
 -- if it is skipped, the one above it is not, and its step is B
 pub up-B : {c : List ℕ} {n m : ℕ} → Course c n → m < n → entry c (suc m) ≡ 0
-    → (suc m < n) × Course c (suc (suc m)) × Among (suc m) (entry c (suc (suc m))) × (built c (suc (suc m)) ≡ stepB (suc (suc m)) (entry c (suc (suc m))) (built c m))
+    → (suc m < n) × Course c (suc (suc m)) × Among (suc m) (entry c (suc (suc m)))
+    × (built c (suc (suc m)) ≡ stepB (suc (suc m)) (entry c (suc (suc m))) (built c m))
 up-B {c = c} {n = n} {m = m} C h e =
     let top : suc m ≢ n = λ k. C .met (omega arith) (ap (entry c) (sym k) ∙ e) in
     let D = course-front {k = suc (suc m)} C (omega arith) (λ l. C .apart (suc m) (omega arith) (omega arith) e) in

@@ -1,20 +1,19 @@
 -- A pattern with its inverse: it tells the letter; A and B are taken back on both at once; and it is filled in one pass.
 -- Assumes nothing.
-use mathlib.Core.Path.{_≡_, sym, ap, _∙_}
+use mathlib.Core.Path.{_≡_, refl, sym, ap, _∙_}
 use mathlib.Core.Logic.{_≢_}
 use mathlib.Core.List.{List}
 use Prim.Native.Nat.{ℕ, suc, _≤_, _<_}
 use native.Mathlib.Omega.{arith}
 use lib.ListN.{length, take, set, length-set}
 use lib.Seq.{length-take-le}
-use borrow.Author.Tests.{eq-eqb, ne-eqb}
 use Rattle.listing.specs.Numbers.{Among, raise, lower}
 use Rattle.listing.specs.Pattern.{entry, Permutation, Derangement}
 use Rattle.listing.specs.Steps.{byA, byB, letter, unA, unB, byBackA, byBackB}
 use Rattle.listing.proofs.Numbers.{either, same?, trade-cases, raise-near, raise-lower, lower-raise, raise-among}
 use Rattle.listing.proofs.Panels.{entry-take, entry-same, entry-other, length-tabulate, entry-tabulate}
 use Rattle.listing.proofs.Onto.{stands}
-use Rattle.listing.proofs.Shorter.{letter-back}
+use Rattle.listing.proofs.Shorter.{letter-A, letter-B, letter-back}
 use Rattle.listing_course.specs.InPlace.{Inverse, Inverted, WithInverse}
 use Rattle.listing_course.proofs.InPlace.{front}
 
@@ -29,20 +28,17 @@ inverse-at {n = n} {p = p} {q = q} P I v h =
 
 -- ---- the letter
 
-module _ {n : ℕ} {p q : List ℕ} (D : Derangement n p) (I : Inverse n p q) (h : 1 ≤ n) where
-  -- by B exactly if the last jack and the last port have the same partner
-  pub letter-B : entry q n ≡ entry p n → letter n p ≡ byB
-  unfolding letter
-  letter-B e =
-      let held : entry p (entry p n) ≡ n = ap (entry p) (sym e) ∙ inverse-at (D .permutation) I n (omega arith) .1 in
-      rw (eq-eqb (entry p (entry p n)) n held)
+-- by B exactly if the last jack and the last port have the same partner
+module _ (m : ℕ) {p q : List ℕ} (P : Permutation (suc (suc m)) p) (I : Inverse (suc (suc m)) p q) where
+  told-B : entry q (suc (suc m)) ≡ entry p (suc (suc m)) → letter (suc (suc m)) p ≡ byB
+  told-B e =
+      let n = suc (suc m) in
+      letter-B m p (entry p n) refl (ap (entry p) (sym e) ∙ inverse-at P I n (omega arith) .1)
 
-  pub letter-A : entry q n ≢ entry p n → letter n p ≡ byA
-  unfolding letter
-  letter-A d =
-      let other : entry p (entry p n) ≢ n = λ e.
-      d (ap (entry q) (sym e) ∙ I .back (entry p n) (D .permutation .ports n (omega arith))) in
-      rw (ne-eqb (entry p (entry p n)) n other)
+  told-A : entry q (suc (suc m)) ≢ entry p (suc (suc m)) → letter (suc (suc m)) p ≡ byA
+  told-A d =
+      let n = suc (suc m) in
+      letter-A m p (entry p n) refl (λ e. d (ap (entry q) (sym e) ∙ I .back (entry p n) (P .ports n (omega arith))))
 
 -- ---- back from A, on both: i where p holds n, and the jack that held n as that of i
 
@@ -84,7 +80,7 @@ module _ {m : ℕ} (a b : List ℕ) (x y : ℕ) (s : WithInverse (suc (suc m)) a
 
   -- the letter is A, so the step back leads to a pattern
   letter-is : letter n p ≡ byA
-  letter-is = letter-A (s .pattern) (s .inverse) (omega arith) (λ e. let z : suc y ≡ suc x = sym jack ∙ e ∙ last in far (omega arith))
+  letter-is = told-A m P (s .inverse) (λ e. let z : suc y ≡ suc x = sym jack ∙ e ∙ last in far (omega arith))
 
   shown : take (suc m) (set a y (suc x)) ≡ unA n p
   unfolding unA
@@ -151,7 +147,7 @@ pub back-B : {m : ℕ} (a b a′ b′ : List ℕ) → WithInverse (suc (suc m)) 
 back-B {m = m} a b a′ b′ s e ea eb =
     let n = suc (suc m) in
     let same : entry (take n b) n ≡ entry (take n a) n = entry-take n b n (omega arith) ∙ e ∙ sym (entry-take n a n (omega arith)) in
-    let w = letter-B (s .pattern) (s .inverse) (omega arith) same in
+    let w = told-B m (s .pattern .permutation) (s .inverse) same in
     let D : Derangement m (unB n (take n a)) = rw w at (letter-back m (take n a) (s .pattern) .0) in
     (w, record { pattern = rw ea D; inverse = rw (ea, eb) (unB-inverse m (s .pattern) (s .inverse) same D) })
 

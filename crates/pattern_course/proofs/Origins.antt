@@ -1,9 +1,9 @@
 -- The origin of a rank: the step and the shorter rank that it names make the pattern of the rank.
 -- Assumes nothing.
-use mathlib.Core.Path.{_≡_, refl, sym, ap, _∙_, subst}
+use mathlib.Core.Path.{_≡_, sym, ap, _∙_, subst}
 use mathlib.Core.Logic.{_≢_}
 use Prim.Native.Nat.{ℕ, zero, suc, _+_, _-_, _/_, _%_, _≤_, _<_}
-use native.Mathlib.Nat.{mod-lt, not-suc-le-zero}
+use native.Mathlib.Nat.{mod-lt}
 use native.Mathlib.Numerals.{add-one}
 use native.Mathlib.Omega.{arith}
 use borrow.Author.Tests.{lt-ltb, le-ltb}
@@ -13,19 +13,13 @@ use Rattle.listing.specs.Steps.{stepA, stepB}
 use Rattle.listing.specs.Listing.{at}
 use Rattle.listing.specs.Rank.{fromEnd, perBlock, turned, unrank}
 use Rattle.listing.proofs.Numbers.{either, below?, less-one}
+use Rattle.listing.proofs.Counts.{two-ports}
 use Rattle.listing.proofs.Places.{turned-below}
 use Rattle.listing.proofs.Ranks.{perBlock-pos, block-among}
 use Rattle.listing.proofs.Unranks.{unrank-at}
 use Rattle.pattern_course.specs.Origin.{originIn, originOf}
 use Rattle.pattern_course.specs.declared.types.Origin.{Origin}
 use Rattle.pattern_course.specs.declared.types.Origin.the-variants.{ByA, ByB}
-
--- where there is a rank and a port there are two
-pub two-ports : {n r : ℕ} → n ≢ 0 → r < count n → 2 ≤ n
-unfolding count
-two-ports {n = zero} h l = absurd (h refl)
-two-ports {n = suc zero} h l = absurd (not-suc-le-zero l)
-two-ports {n = suc (suc m)} h l = omega arith
 
 -- ---- the numbers that the code computes
 

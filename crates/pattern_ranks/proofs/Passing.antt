@@ -9,17 +9,19 @@ use native.Mathlib.Nat.{mul-le-mul-right}
 use native.Mathlib.Omega.{arith}
 use mir.Syntax.{w64}
 use mir.Val.{Fits}
-use lib.ListN.{take}
+use lib.ListN.{length, take}
 use Rattle.listing.specs.Numbers.{Among, before}
 use Rattle.listing.specs.Pattern.{entry, Derangement}
 use Rattle.listing.specs.Count.{count}
 use Rattle.listing.specs.Steps.{Letter, byA, byB, shorter, back, letter}
 use Rattle.listing.specs.Rank.{perBlock, turned, rank}
 use Rattle.listing.specs.Reading.{other, comesFirst, passed}
-use Rattle.listing.proofs.Counts.{count-blocks}
+use Rattle.listing.specs.Limits.{mostPorts}
+use Rattle.listing.proofs.Counts.{two-ports, count-blocks}
 use Rattle.listing.proofs.Shorter.{end-fits, letter-back}
-use Rattle.listing.proofs.Ranks.{not-one}
+use Rattle.listing.proofs.Ranks.{rank-below}
 use Rattle.listing.proofs.Reading.{rank-read}
+use Rattle.listing_course.specs.InPlace.{WithInverse}
 use Rattle.pattern_ranks.specs.Levels.{cameOf, letterOf, endOf, Peeled, LevelOf, Placing}
 use Rattle.pattern_ranks.specs.declared.types.Level.{Level}
 use Rattle.pattern_ranks.specs.declared.types.Came.{Came}
@@ -32,10 +34,8 @@ as-came c byA i e = rw e (refl, refl)
 as-came c byB i e = rw e (refl, refl)
 
 -- a pattern with a port has two
-pub two-jacks : {n : ℕ} {p : List ℕ} → n ≢ 0 → Derangement n p → 2 ≤ n
-two-jacks {n = zero} h D = absurd (h refl)
-two-jacks {n = suc zero} {p = p} h D = absurd (not-one p D)
-two-jacks {n = suc (suc m)} h D = omega arith
+two-jacks : {n : ℕ} {p : List ℕ} → n ≢ 0 → Derangement n p → 2 ≤ n
+two-jacks {n = n} {p = p} h D = two-ports h (rank-below n p D)
 
 -- the entry at the last jack is 1 to n - 1
 pub end-among : {n : ℕ} {p : List ℕ} {c : Came} → 2 ≤ n → Derangement n p → c ≡ cameOf (letter n p) (entry p n) → Among (n - 1) (endOf c)
@@ -108,6 +108,11 @@ pub level-of : {forward : Bool} {n : ℕ} {t a b : List ℕ} {c : Came} (l : Lev
 level-of {forward = forward} {n = n} l h D s ex ef ek =
     let law = rw (← ex, ← ef, ← s .shown, ← ek) at (place-level forward h D (s .came)) in
     record { fewer = law .0; long = s .long; long-back = s .long-back; arrays = rw ek (s .arrays); place = law .2 }
+
+-- what a level asks of the arrays of a pattern that is to be placed
+pub level-asked : {forward : Bool} {n x : ℕ} {a b : List ℕ} → n ≢ 0 → Placing forward n a b x
+    → (length a ≡ mostPorts) × (length b ≡ mostPorts) × (2 ≤ n) × (n ≤ mostPorts) × WithInverse n a b
+level-asked h s = (s .long, s .long-back, two-jacks h (s .arrays .pattern), s .most, s .arrays)
 
 -- the pattern with no ports has place 0
 pub place-none : (forward : Bool) (n x : ℕ) (p : List ℕ) → n ≡ 0 → x ≡ x + turned forward (count n) (rank n p)

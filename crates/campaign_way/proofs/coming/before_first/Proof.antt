@@ -39,7 +39,8 @@ returns c =
     let a = s .args in
     sym
     (first-astray (a .n) (legIs (a .l)) _
-    (front-refused (a .n) (a .t3) _ _ (s .pre .0) (s .pre .1) (search needs) (ap outcomeTold (sym (c .enum-told .given .1)) ∙ c .before .before .check-panel .ensures)))
+    (front-refused (a .n) (a .t3) _ _ (s .pre .0) (s .pre .1) (search needs)
+    (ap outcomeTold (sym (c .enum-told .given .1)) ∙ c .before .before .check-panel .ensures)))
 
 returns-2 : tie.Need-returns-2
 returns-2 c =

@@ -1,5 +1,5 @@
--- `pattern_course::unranking::course_of` meets its contract: each turn writes the level that the rank names. The loop's invariant: the levels above m are those on
--- the way down to the rank that is left.
+-- `pattern_course::unranking::course_of` meets its contract: each turn writes the level that the rank names. The loop's invariant: the levels above m are those
+-- on the way down to the rank that is left.
 -- Assumes nothing.
 use mathlib.Core.Path.{_≡_, refl}
 use Prim.Native.Nat.{_≤_}
@@ -7,10 +7,11 @@ use native.Mathlib.Omega.{arith}
 use lib.ListN.{length, length-set}
 use borrow.Author.Needs.{needs}
 use Rattle.listing.specs.Limits.{mostPorts}
+use Rattle.listing.proofs.Counts.{two-ports}
 use Rattle.listing_course.specs.Course.{Traced}
 use Rattle.listing_course.proofs.Courses.{traced-start, traced-end}
 use Rattle.pattern_course.specs.declared.types.Origin.{Origin}
-use Rattle.pattern_course.proofs.Origins.{two-ports, Makes, origin-makes}
+use Rattle.pattern_course.proofs.Origins.{Makes, origin-makes}
 use Rattle.pattern_course.proofs.Ways.{down-A, down-B}
 use Rattle.pattern_course.proofs.unranking.course_of.Statement.{statement}
 use Rattle.pattern_course.proofs.unranking.course_of.Tie as tie
@@ -26,7 +27,8 @@ two : (c : tie.In-loop Inv-loop μ-loop) → 2 ≤ c .before .loop .m
 two c = two-ports (omega arith) (c .before .loop .inv .1 .below)
 
 -- what the origin names makes the pattern
-made : (c : tie.After-origin Inv-loop μ-loop) {named : Origin} → c .origin .result ≡ named → Makes (c .before .before .loop .m) (c .before .before .loop .left) named
+made : (c : tie.After-origin Inv-loop μ-loop) {named : Origin} → c .origin .result ≡ named
+    → Makes (c .before .before .loop .m) (c .before .before .loop .left) named
 made c e = origin-makes (omega arith) (c .before .before .loop .inv .1 .below) (c .origin .ensures) e
 
 loop-holds : tie.Need-loop-holds Inv-loop μ-loop

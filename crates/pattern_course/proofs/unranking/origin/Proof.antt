@@ -39,7 +39,8 @@ returns-2 c =
     let t = f .before .before in
     let p = t .before .before .before in
     let u = rw (t .before .is-odd .ensures) at (t .turned-place .ensures) in
-    rw (c .from-end .ensures) (origin-B (p .before .pre .0) (p .before .pre .2) (parts-size _ (p .parts-of .ensures)) u (rw (p .parts-of .ensures .0) at (f .if1 .left)))
+    rw (c .from-end .ensures)
+    (origin-B (p .before .pre .0) (p .before .pre .2) (parts-size _ (p .parts-of .ensures)) u (rw (p .parts-of .ensures .0) at (f .if1 .left)))
 
 pub origin-spec : {M : Type 1} → statement M
 origin-spec =

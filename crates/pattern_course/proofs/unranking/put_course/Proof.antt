@@ -1,5 +1,5 @@
--- `pattern_course::unranking::put_course` meets its contract: each turn makes the step of the next level that is met. The loop's invariant: the buffer begins with
--- the pattern of m ports of the course.
+-- `pattern_course::unranking::put_course` meets its contract: each turn makes the step of the next level that is met. The loop's invariant: the buffer begins
+-- with the pattern of m ports of the course.
 -- Assumes nothing.
 use mathlib.Core.Path.{_≡_, refl, sym, ap, _∙_}
 use Prim.Native.Nat.{suc, _-_, _≤_, _<_}

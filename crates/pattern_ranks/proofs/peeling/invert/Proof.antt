@@ -3,8 +3,9 @@
 use mathlib.Core.Path.{_≡_}
 use Prim.Native.Nat.{_-_, _≤_}
 use native.Mathlib.Omega.{arith}
-use lib.ListN.{length, length-set}
+use lib.ListN.{length, getD, length-set}
 use borrow.Author.Needs.{needs}
+use Rattle.listing.specs.Numbers.{Among}
 use Rattle.listing.specs.Limits.{mostPorts}
 use Rattle.listing_course.specs.InPlace.{Inverted}
 use Rattle.pattern_ranks.proofs.Taken.{port-place, inverted-turn}
@@ -16,6 +17,10 @@ Inv-loop p q₀ at₀ q at = (at ≤ length p) × (length q ≡ mostPorts) × In
 
 abbrev μ-loop : tie.MeasureT-loop
 μ-loop p q₀ at₀ q at = length p - at
+
+-- the port at the jack is one of the pattern's
+port : (c : tie.After-shared-slice-known Inv-loop μ-loop) → let l = c .before .before in let p = l .before .args .p .now in Among (length p) (getD p (l .loop .at) 0)
+port c = let l = c .before .before in port-place (l .before .args .p .now) (l .loop .at) (l .before .pre .2) (c .before .loop-test .taken)
 
 loop-again : tie.Need-loop-again Inv-loop μ-loop
 loop-again c =
@@ -40,11 +45,11 @@ invert-spec =
     μ-loop
     (λ c. (search needs, c .pre .0, λ x h. absurd (omega arith)))
     (λ c. search needs)
-    (λ c. let s = c .before .before .before in omega (arith, port-place (s .args .p .now) (c .before .before .loop .at) (s .pre .2) (c .before .loop-test .taken)))
-    (λ c. let s = c .before .before .before in omega (arith, port-place (s .args .p .now) (c .before .before .loop .at) (s .pre .2) (c .before .loop-test .taken)))
+    (λ c. omega (arith, port c))
+    (λ c. omega (arith, port c))
     (λ c. search needs)
     (λ c. search needs)
-    (λ c. let s = c .before .before .before in omega (arith, port-place (s .args .p .now) (c .before .before .loop .at) (s .pre .2) (c .before .loop-test .taken)))
+    (λ c. omega (arith, port c))
     (λ c. search needs)
     (λ c. search needs)
     loop-again

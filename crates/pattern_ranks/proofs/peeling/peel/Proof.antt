@@ -19,7 +19,8 @@ returns c =
     let t = f .before .before in
     let s = t .before .before .before in
     let a = s .args in
-    taken-B (a .n) (a .p .now) (a .q .now) _ _ (s .pre .2) (f .back-b .ensures .0) (c .back-b2 .ensures .0) (s .pre .4) (t .if1 .taken) (f .back-b .ensures .1) (c .back-b2 .ensures .1)
+    taken-B (a .n) (a .p .now) (a .q .now) _ _ (s .pre .2) (f .back-b .ensures .0) (c .back-b2 .ensures .0) (s .pre .4) (t .if1 .taken)
+    (f .back-b .ensures .1) (c .back-b2 .ensures .1)
 
 returns-2 : tie.Need-returns-2
 returns-2 c =

@@ -1,11 +1,12 @@
--- `pattern_ranks::ranking::place` and `place_back` meet their contracts: each level's law of the place, read forward and read backward. The ports fall at each call.
+-- `pattern_ranks::ranking::place` and `place_back` meet their contracts: each level's law of the place, read forward and read backward. The ports fall at each
+-- call.
 -- Assumes nothing.
 use mathlib.Core.Bool.{true, false}
 use Prim.Native.Nat.{ℕ, _<_}
 use lib.ListN.{take}
 use borrow.Fn.Kinds.{In}
 use borrow.Fn.PlainCycle.{Measures, is, falls, and}
-use Rattle.pattern_ranks.proofs.Passing.{two-jacks, place-none, Onward, onward}
+use Rattle.pattern_ranks.proofs.Passing.{level-asked, place-none, Onward, onward}
 use Rattle.pattern_ranks.proofs.ranking.place.Reads as place
 use Rattle.pattern_ranks.proofs.ranking.place.Kinds as place-kinds
 use Rattle.pattern_ranks.proofs.ranking.+place+place_back.Lts-place as place-lts
@@ -54,7 +55,7 @@ pub +place+place-back-spec : {M : Type 1} → statement M
     (λ t.
     place-lts.spec (calls t) (here t) place.Post
     (λ c. place-none true (c .before .args .n) _ _ (c .if1 .taken))
-    (λ c κs. let k = c .before .before .before .pre .1 in (k .long, k .long-back, two-jacks (c .before .before .if1 .left) (k .arrays .pattern), k .most, k .arrays))
+    (λ c κs. level-asked (c .before .before .if1 .left) (c .before .before .before .pre .1))
     (λ c. on t (c .before .before .before .before) .sum)
     (λ c κs. let o = on t (c .before .before .before .before) in (o .fewer, o .placing (c .before .before .before .if2 .taken)))
     (λ c. on t (c .before .before .before .before .before) .place (c .before .before .before .before .if2 .taken) (c .place .ensures))
@@ -64,7 +65,7 @@ pub +place+place-back-spec : {M : Type 1} → statement M
     (λ t.
     place-back-lts.spec (calls t) (here-back t) place-back.Post
     (λ c. place-none false (c .before .args .n) _ _ (c .if1 .taken))
-    (λ c κs. let k = c .before .before .before .pre .1 in (k .long, k .long-back, two-jacks (c .before .before .if1 .left) (k .arrays .pattern), k .most, k .arrays))
+    (λ c κs. level-asked (c .before .before .if1 .left) (c .before .before .before .pre .1))
     (λ c. on-back t (c .before .before .before .before) .sum)
     (λ c κs. let o = on-back t (c .before .before .before .before) in (o .fewer, o .placing (c .before .before .before .if2 .taken)))
     (λ c. on-back t (c .before .before .before .before .before) .place (c .before .before .before .before .if2 .taken) (c .place .ensures))

@@ -36,8 +36,9 @@ unfolding passed
 returns c =
     let b = c .before .before in
     let p = b .before .before in
+    let parts = p .parts-of .ensures in
     let w = letterOf (p .before .args .c) in
-    rw (parts-size _ (p .parts-of .ensures), c .first-part .ensures, part-count (other w) _ (p .parts-of .ensures), b .blocks-before .ensures, b .before .block-of .ensures)
+    rw (parts-size _ parts, c .first-part .ensures, part-count (other w) _ parts, b .blocks-before .ensures, b .before .block-of .ensures)
 
 pub passed-over-spec : {M : Type 1} → statement M
 passed-over-spec =

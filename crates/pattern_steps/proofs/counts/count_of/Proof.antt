@@ -2,7 +2,7 @@
 -- Assumes nothing.
 use native.Mathlib.Omega.{arith}
 use Rattle.listing.specs.Count.{count}
-use Rattle.pattern_steps.proofs.LastArm.{last-arm}
+use Rattle.words.proofs.LastArm.{last-arm}
 use Rattle.pattern_steps.proofs.counts.count_of.Statement.{statement}
 use Rattle.pattern_steps.proofs.counts.count_of.Tie as tie
 

@@ -3,7 +3,7 @@
 use mathlib.Core.Path.{refl}
 use native.Mathlib.Omega.{arith}
 use Rattle.listing.specs.Count.{count}
-use Rattle.pattern_steps.proofs.LastArm.{last-arm}
+use Rattle.words.proofs.LastArm.{last-arm}
 use Rattle.pattern_steps.proofs.counts.parts_of.Statement.{statement}
 use Rattle.pattern_steps.proofs.counts.parts_of.Tie as tie
 

@@ -13,7 +13,8 @@ returns : tie.Need-returns
 returns c =
     let f = c .before .before in
     let a = f .before .args in
-    c .lowered .ensures ∙ ap (lower (a .i)) (entry-below (a .p .now) (f .raised .result) (omega (arith, f .raised .ensures)) ∙ ap (entry (a .p .now)) (f .raised .ensures))
+    c .lowered .ensures
+    ∙ ap (lower (a .i)) (entry-below (a .p .now) (f .raised .result) (omega (arith, f .raised .ensures)) ∙ ap (entry (a .p .now)) (f .raised .ensures))
 
 pub port-back-b-spec : {M : Type 1} → statement M
 port-back-b-spec =

@@ -10,7 +10,7 @@ NoneFrom a zero n = Unit {0}
 NoneFrom a (suc k) n = NoneFrom a k n × (n ≡ a + k → ⊥)
 
 -- so, from a on, it is past them
-past : (a k n : ℕ) → NoneFrom a k n → a ≤ n → a + k ≤ n
+pub past : (a k n : ℕ) → NoneFrom a k n → a ≤ n → a + k ≤ n
 past a zero n none h = omega arith
 past a (suc k) n none h = let le = past a k n (none .0) h in let ne = none .1 in omega arith
 
