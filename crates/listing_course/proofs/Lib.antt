@@ -1,4 +1,6 @@
+pub mod Beside
 pub mod Courses
 pub mod InPlace
 pub mod Inverse
+pub mod Onward
 pub mod Worked

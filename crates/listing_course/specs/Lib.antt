@@ -1,2 +1,3 @@
 pub mod Course
 pub mod InPlace
+pub mod Onward
