@@ -153,15 +153,15 @@ back-B {m = m} a b a′ b′ s e ea eb =
 
 -- ---- the one pass that fills it
 
--- jack j + 1 is stored at its port
-pub inverted-on : {n : ℕ} (p b : List ℕ) (j k : ℕ) → Permutation n p → Inverted p j b → j < n → entry p (suc j) ≡ suc k → k < length b
+-- jack j + 1 is stored at its port, which no jack before it holds
+pub inverted-on : (p b : List ℕ) (j k : ℕ) → ((x : ℕ) → Among j x → entry p x ≢ suc k) → Inverted p j b → entry p (suc j) ≡ suc k → k < length b
     → Inverted p (suc j) (set b k (suc j))
-inverted-on p b j k P I h e room x hx =
+inverted-on p b j k fresh I e room x hx =
     either (same? x (suc j))
     (λ c. rw (c, e) (entry-same b k (suc j) room))
     (λ c.
-    let other : entry p x ≢ suc k = λ z. c (P .apart x (suc j) (omega arith) (omega arith) (z ∙ sym e)) in
-    entry-other b k (suc j) (entry p x) other ∙ I x (omega arith))
+    let h : Among j x = omega arith in
+    entry-other b k (suc j) (entry p x) (fresh x h) ∙ I x h)
 
 -- after the last jack: a pattern in one array, and its inverse in the other
 pub inverted-end : {n : ℕ} (a b : List ℕ) → Derangement n (take n a) → Inverted (take n a) n b → n ≤ length b → WithInverse n a b

@@ -1,5 +1,6 @@
 // The check of a pattern or a panel: the first jack at fault decides.
 use crate::answers::Fault;
+use pattern_inverse::invert;
 use words::Jack;
 use words::Outcome;
 use words::Place;
@@ -12,8 +13,11 @@ ghost use mathlib.Core.Path.{_≡_};
 ghost use mathlib.Core.Bool.{true, false};
 ghost use Prim.Native.Nat.{_≤_};
 ghost use lib.ListN.{length};
+ghost use Rattle.words.specs.Told.{accepted};
 ghost use Rattle.words.specs.Meaning.{outcomeTold};
 ghost use Rattle.listing.specs.Limits.{mostPorts};
+ghost use Rattle.listing_course.specs.InPlace.{Inverted};
+ghost use Rattle.pattern_inverse.specs.Judged.{Blank};
 ghost use Rattle.pattern_check.specs.Faults.{faultOf, faultTold};
 ghost use Rattle.pattern_check.specs.Calls.{inSize, checkAs};
 ghost use Rattle.pattern_check.specs.Answers.{faultIs};
@@ -88,26 +92,36 @@ fn refusal_of(f: Fault) -> Outcome
     }
 }
 
-// Whether p is a pattern, or else a panel, of 2 to 20 ports.
-fn check_as(p: &[u8], pattern: bool) -> Outcome
-    ensures { λ r. ⌜ outcomeTold r ≡ checkAs pattern mostPorts (now (p .entry)) ⌝ }
+// Whether p is a pattern of 2 to 20 ports; if it is, its inverse is left in q. One pass accepts, and what it does not accept the first fault refuses.
+pub fn check_inverse(p: &[u8], q: &mut [u8; LONGEST]) -> Outcome
+    requires { ⌜ (length (now q) ≡ mostPorts) × Blank (now q) ⌝ }
+    ensures answer { λ r. ⌜ outcomeTold r ≡ checkAs true mostPorts (now (p .entry)) ⌝ }
+    ensures long { λ _. ⌜ length (now (q .exit)) ≡ mostPorts ⌝ }
+    ensures inverse { λ _. ⌜ (accepted tt ≡ checkAs true mostPorts (now (p .entry)) → Inverted (now (p .entry)) (length (now (p .entry))) (now (q .exit))) ⌝ }
 {
     if !in_size(p.len()) {
         return Outcome::Refused(nowhere(Reason::Ports));
     }
-    refusal_of(fault(p, pattern))
+    if invert(p, q) {
+        return Outcome::Accepted;
+    }
+    refusal_of(fault(p, true))
 }
 
 // Whether p is a pattern of 2 to 20 ports.
 pub fn check(p: &[u8]) -> Outcome
     ensures { λ r. ⌜ outcomeTold r ≡ checkAs true mostPorts (now (p .entry)) ⌝ }
 {
-    check_as(p, true)
+    let mut inverse = [0u8; LONGEST];
+    check_inverse(p, &mut inverse)
 }
 
 // Whether p is a panel of 2 to 20 ports: a permutation, in which a port may stand at its own jack.
 pub fn check_panel(p: &[u8]) -> Outcome
     ensures { λ r. ⌜ outcomeTold r ≡ checkAs false mostPorts (now (p .entry)) ⌝ }
 {
-    check_as(p, false)
+    if !in_size(p.len()) {
+        return Outcome::Refused(nowhere(Reason::Ports));
+    }
+    refusal_of(fault(p, false))
 }

@@ -3,35 +3,19 @@
 use mathlib.Core.Path.{_≡_, sym, ap, _∙_}
 use mathlib.Core.Logic.{_≢_}
 use mathlib.Core.List.{List}
-use Prim.Native.Nat.{ℕ, suc, _+_, _-_, _≤_, _<_}
-use native.Mathlib.Numerals.{add-one}
+use Prim.Native.Nat.{ℕ, suc, _-_, _≤_}
 use native.Mathlib.Omega.{arith}
 use lib.ListN.{length, take, getD, set, length-set}
 use Rattle.listing.specs.Numbers.{Among}
-use Rattle.listing.specs.Pattern.{entry, Permutation}
+use Rattle.listing.specs.Pattern.{entry}
 use Rattle.listing.specs.Steps.{unB}
 use Rattle.listing.specs.Limits.{mostPorts}
 use Rattle.listing.proofs.Numbers.{from-two}
 use Rattle.listing.proofs.Panels.{entry-take, entry-front}
-use Rattle.listing_course.specs.InPlace.{Inverted, WithInverse}
-use Rattle.listing_course.proofs.Inverse.{inverse-at, back-A, back-B, inverted-on}
+use Rattle.listing_course.specs.InPlace.{WithInverse}
+use Rattle.listing_course.proofs.Inverse.{inverse-at, back-A, back-B}
 use Rattle.pattern_ranks.specs.Levels.{Peeled}
 use Rattle.pattern_ranks.specs.declared.types.Came.the-variants.{ByA, ByB}
-
--- ---- the inverse, filled in one pass
-
--- the port at a jack as a place
-pub port-place : (p : List ℕ) (j : ℕ) → Permutation (length p) p → j < length p → Among (length p) (getD p j 0)
-port-place p j P h = P .ports (suc j) (omega arith)
-
-pub inverted-turn : (p b : List ℕ) (j : ℕ) → Permutation (length p) p → length p ≤ length b → Inverted p j b → j < length p
-    → Inverted p (j + 1) (set b (getD p j 0 - 1) (j + 1))
-inverted-turn p b j P room s h =
-    let v = port-place p j P h in
-    let k : getD p j 0 ≡ suc (getD p j 0 - 1) = omega arith in
-    rw add-one (inverted-on p b j (getD p j 0 - 1) P s h k (omega arith))
-
--- ---- one level
 
 -- the partners of the last jack and of the last port
 pub ends : (n : ℕ) (a b : List ℕ) → 2 ≤ n → WithInverse n a b → Among n (getD a (n - 1) 0) × Among n (getD b (n - 1) 0)

@@ -5,24 +5,9 @@ use words::limits::LONGEST;
 ghost use mathlib.Core.Path.{_≡_};
 ghost use Prim.Native.Nat.{_≤_};
 ghost use lib.ListN.{length, take};
-ghost use Rattle.listing.specs.Pattern.{Permutation};
 ghost use Rattle.listing.specs.Limits.{mostPorts};
-ghost use Rattle.listing_course.specs.InPlace.{Inverted, WithInverse};
+ghost use Rattle.listing_course.specs.InPlace.{WithInverse};
 ghost use Rattle.pattern_ranks.specs.Levels.{Peeled};
-
-// The inverse of a lent pattern: each jack at its port.
-pub fn invert(p: &[u8], q: &mut [u8; LONGEST])
-    requires { ⌜ (length (now q) ≡ mostPorts) × (length (now p) ≤ mostPorts) × Permutation (length (now p)) (now p) ⌝ }
-    ensures long { λ _. ⌜ length (now (q .exit)) ≡ mostPorts ⌝ }
-    ensures inverse { λ _. ⌜ Inverted (now (p .entry)) (length (now (p .entry))) (now (q .exit)) ⌝ }
-{
-    let mut at: usize = 0;
-    while at < p.len() {
-        let port = (p[at] - 1) as usize;
-        q[port] = (at + 1) as u8;
-        at += 1;
-    }
-}
 
 // One level taken off the pattern of n ports in p, and off its inverse in q. With i the entry at the last jack it came by B if jack i holds the last port,
 // which the inverse tells at once; else by A, and then i goes to the jack that holds the last port.

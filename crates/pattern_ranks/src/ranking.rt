@@ -1,5 +1,4 @@
 // The place of a pattern in the list and in the reversed list, level by level.
-use crate::peeling::invert;
 use crate::peeling::peel;
 use crate::types::Came;
 use crate::types::Level;
@@ -20,7 +19,7 @@ ghost use Rattle.listing.specs.Rank.{fromEnd, rank};
 ghost use Rattle.listing.specs.Reading.{other, comesFirst, passed};
 ghost use Rattle.listing.specs.Limits.{mostPorts};
 ghost use Rattle.pattern_steps.specs.Blocks.{partOf};
-ghost use Rattle.listing_course.specs.InPlace.{WithInverse};
+ghost use Rattle.listing_course.specs.InPlace.{Inverted, WithInverse};
 ghost use Rattle.pattern_ranks.specs.Levels.{letterOf, endOf, LevelOf, Placing};
 
 // Whether the patterns by a step are the first part of their block, in the list read forward or backward.
@@ -128,13 +127,13 @@ fn place_back(p: &mut [u8; LONGEST], q: &mut [u8; LONGEST], n: u8, passed: u64) 
     place_back(p, q, l.ports, passed + l.passed)
 }
 
-// The rank of a lent pattern, on one working copy and its inverse.
-pub fn rank_of(p: &[u8]) -> u64
-    requires { ⌜ (length (now p) ≤ mostPorts) × Derangement (length (now p)) (now p) ⌝ }
+// The rank of a lent pattern, on one working copy and its inverse, which is used up.
+pub fn rank_of(p: &[u8], q: &mut [u8; LONGEST]) -> u64
+    requires {
+        ⌜ (length (now q) ≡ mostPorts) × (length (now p) ≤ mostPorts) × Derangement (length (now p)) (now p) × Inverted (now p) (length (now p)) (now q) ⌝
+    }
     ensures { λ r. ⌜ r ≡ rank (length (now (p .entry))) (now (p .entry)) ⌝ }
 {
     let mut copy = load(p);
-    let mut inverse = [0u8; LONGEST];
-    invert(p, &mut inverse);
-    place(&mut copy, &mut inverse, p.len() as u8, 0)
+    place(&mut copy, q, p.len() as u8, 0)
 }

@@ -1,10 +1,11 @@
 // Next and previous round the circuit: the lent pattern becomes the one beside it, and the answer is the move that was made.
 use crate::answers::Moved;
 use pattern_carry::carry_move;
-use pattern_check::checking::check;
+use pattern_check::checking::check_inverse;
 use pattern_moves::neighbours::move_beside;
 use pattern_ranks::ranking::rank_of;
 use words::Outcome;
+use words::limits::LONGEST;
 ghost use mathlib.Core.Path.{_≡_};
 ghost use mathlib.Core.Bool.{true, false};
 ghost use Rattle.listing.specs.Limits.{mostPorts};
@@ -16,11 +17,12 @@ fn go(p: &mut [u8], back: bool) -> Moved
     ensures answer { λ r. ⌜ movedTold r ≡ besideOf mostPorts back (now (p .entry)) ⌝ }
     ensures bytes { λ _. ⌜ now (p .exit) ≡ besideBytes mostPorts back (now (p .entry)) ⌝ }
 {
-    match check(p) {
+    let mut inverse = [0u8; LONGEST];
+    match check_inverse(p, &mut inverse) {
         Outcome::Refused(f) => Moved::Refused(f),
         Outcome::Accepted => {
             let n = p.len() as u8;
-            let m = move_beside(n, back, rank_of(p));
+            let m = move_beside(n, back, rank_of(p, &mut inverse));
             carry_move(m, p);
             Moved::By(m)
         }

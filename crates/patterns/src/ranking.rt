@@ -1,5 +1,5 @@
 // Rank from pattern and pattern from rank.
-use pattern_check::checking::check;
+use pattern_check::checking::check_inverse;
 use pattern_check::checking::in_size;
 use pattern_course::unranking::put_pattern;
 use pattern_ranks::ranking::rank_of;
@@ -7,19 +7,21 @@ use pattern_steps::counts::count_of;
 use words::Numbered;
 use words::Outcome;
 use words::Reason;
+use words::limits::LONGEST;
 use words::refusals::nowhere;
 ghost use mathlib.Core.Path.{_≡_};
 ghost use Rattle.words.specs.Meaning.{numberedTold, outcomeTold};
 ghost use Rattle.listing.specs.Limits.{mostPorts};
 ghost use Rattle.patterns.specs.Calls.{rankOf, unrankOf, unrankBytes};
 
-// The rank of a pattern.
+// The rank of a pattern, by the inverse that the check leaves.
 pub fn rank(p: &[u8]) -> Numbered
     ensures { λ r. ⌜ numberedTold r ≡ rankOf mostPorts (now (p .entry)) ⌝ }
 {
-    match check(p) {
+    let mut inverse = [0u8; LONGEST];
+    match check_inverse(p, &mut inverse) {
         Outcome::Refused(f) => Numbered::Refused(f),
-        Outcome::Accepted => Numbered::Is(rank_of(p)),
+        Outcome::Accepted => Numbered::Is(rank_of(p, &mut inverse)),
     }
 }
 

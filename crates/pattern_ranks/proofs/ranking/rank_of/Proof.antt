@@ -40,13 +40,12 @@ placing p a b h D e long I =
 
 place-requires : tie.Need-place-requires
 place-requires c κs =
-    let v = c .before .before in
-    let l = v .before .before in
+    let l = c .before .before in
     let s = l .before .before in
-    placing _ _ _ (s .pre .0) (s .pre .1) (l .load .ensures) (v .invert .ensures .0) (v .invert .ensures .1)
+    placing _ _ _ (s .pre .1) (s .pre .2) (l .load .ensures) (s .pre .0) (s .pre .3)
 
 returns : tie.Need-returns
-returns c = let l = c .before .before .before .before .before in c .place .ensures ∙ zero-add _ ∙ ap (rank _) (front _ _ (l .load .ensures))
+returns c = let l = c .before .before .before in c .place .ensures ∙ zero-add _ ∙ ap (rank _) (front _ _ (l .load .ensures))
 
 pub rank-of-spec : {M : Type 1} → statement M
-rank-of-spec = tie.close (tie.spec (λ c κs. search needs) (λ c κs. search needs) (λ c. search needs) place-requires returns)
+rank-of-spec = tie.close (tie.spec (λ c κs. search needs) (λ c. search needs) place-requires returns)

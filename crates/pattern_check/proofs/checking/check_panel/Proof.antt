@@ -1,4 +1,4 @@
--- `pattern_check::checking::check_as` tells what `checkAs` says: refusal 1 for the length, else the first fault.
+-- `pattern_check::checking::check_panel` tells what `checkAs` says: refusal 1 for the length, else the first fault.
 -- Assumes nothing.
 use mathlib.Core.Path.{ap, _∙_}
 use borrow.Author.Needs.{needs}
@@ -6,8 +6,8 @@ use Rattle.listing.specs.Limits.{mostPorts}
 use Rattle.words.specs.Meaning.{refusalOf}
 use Rattle.pattern_check.specs.Calls.{checkAs}
 use Rattle.pattern_check.proofs.Calls.{size-within, out-of-size, check-fault}
-use Rattle.pattern_check.proofs.checking.check_as.Statement.{statement}
-use Rattle.pattern_check.proofs.checking.check_as.Tie as tie
+use Rattle.pattern_check.proofs.checking.check_panel.Statement.{statement}
+use Rattle.pattern_check.proofs.checking.check_panel.Tie as tie
 
 returns : tie.Need-returns
 unfolding checkAs
@@ -22,7 +22,7 @@ returns-2 c =
     let size = size-within _ _ (t .before .in-size .ensures) (t .if1 .left) in
     c .refusal-of .ensures ∙ check-fault _ mostPorts _ _ (size .0) (size .1) (c .before .fault .ensures)
 
-pub check-as-spec : {M : Type 1} → statement M
-check-as-spec =
+pub check-panel-spec : {M : Type 1} → statement M
+check-panel-spec =
     tie.close
     (tie.spec (λ c κs. search needs) (λ c κs. search needs) returns fault-requires (λ c κs. search needs) returns-2)
