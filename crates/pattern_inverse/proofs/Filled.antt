@@ -1,5 +1,5 @@
--- The pass turn by turn, with the inverse filled so far: it begins with an empty array, each turn stores one jack at its port, each reason to refuse denies that
--- the list is a pattern, and after the last jack it is one. `at` is the jack's place in the slice, so that the jack is at + 1.
+-- The pass turn by turn, with the inverse filled so far: it begins with an empty array, each turn stores one jack at its port, each reason to refuse denies
+-- that the list is a pattern, and after the last jack it is one. `at` is the jack's place in the slice, so that the jack is at + 1.
 -- Assumes nothing.
 use mathlib.Core.Path.{_≡_, refl, sym, ap, _∙_}
 use mathlib.Core.Logic.{_≢_}
@@ -72,10 +72,10 @@ judged-yes p b F =
       accepted = λ t. (
         record {
           permutation = record {
-              long = refl;
-              ports = F .ports;
-              apart = λ j k hj hk e. sym (F .inverted j hj) ∙ ap (entry b) e ∙ F .inverted k hk;
-            };
+            long = refl;
+            ports = F .ports;
+            apart = λ j k hj hk e. sym (F .inverted j hj) ∙ ap (entry b) e ∙ F .inverted k hk;
+          };
           moved = F .moved;
         },
         F .inverted,
@@ -85,6 +85,7 @@ judged-yes p b F =
 
 -- ---- no
 
+-- whatever the array has
 judged-no : (p b : List ℕ) → (Derangement (length p) p → ⊥) → Judged false p b
 judged-no p b none = record { accepted = λ t. absurd (true≢false (sym t)); refused = λ t. none }
 

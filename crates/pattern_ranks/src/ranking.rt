@@ -129,9 +129,8 @@ fn place_back(p: &mut [u8; LONGEST], q: &mut [u8; LONGEST], n: u8, passed: u64) 
 
 // The rank of a lent pattern, on one working copy and its inverse, which is used up.
 pub fn rank_of(p: &[u8], q: &mut [u8; LONGEST]) -> u64
-    requires {
-        ⌜ (length (now q) ≡ mostPorts) × (length (now p) ≤ mostPorts) × Derangement (length (now p)) (now p) × Inverted (now p) (length (now p)) (now q) ⌝
-    }
+    requires { ⌜ (length (now q) ≡ mostPorts) × (length (now p) ≤ mostPorts) × Derangement (length (now p)) (now p)
+        × Inverted (now p) (length (now p)) (now q) ⌝ }
     ensures { λ r. ⌜ r ≡ rank (length (now (p .entry))) (now (p .entry)) ⌝ }
 {
     let mut copy = load(p);

@@ -17,6 +17,16 @@ Inv-loop p q₀ n at₀ q at = (at ≤ length p) × (length q ≡ mostPorts) × 
 abbrev μ-loop : tie.MeasureT-loop
 μ-loop p q₀ n at₀ q at = length p - at
 
+loop-again : tie.Need-loop-again Inv-loop μ-loop
+loop-again c =
+    let o = c .before .before in
+    let e = o .before .before in
+    let l = e .before .before .before in (
+      search needs,
+      simp length-set (l .loop .inv .1),
+      filled-turn _ _ (l .loop .at) (l .loop .inv .2) (search needs) (e .if1 .left) (o .before .if2 .left) (o .if3 .left) (c .if4 .left),
+    )
+
 returns : tie.Need-returns Inv-loop μ-loop
 returns c =
     let l = c .before .before .before in
@@ -37,16 +47,6 @@ returns-4 c =
     let e = c .before .before .before .before in
     let l = e .before .before .before in
     (l .loop .inv .1, no-again _ _ (l .loop .at) (search needs) (l .loop .inv .2) (e .if1 .left) (c .if4 .taken))
-
-loop-again : tie.Need-loop-again Inv-loop μ-loop
-loop-again c =
-    let o = c .before .before in
-    let e = o .before .before in
-    let l = e .before .before .before in (
-      search needs,
-      simp length-set (l .loop .inv .1),
-      filled-turn _ _ (l .loop .at) (l .loop .inv .2) (search needs) (e .if1 .left) (o .before .if2 .left) (o .if3 .left) (c .if4 .left),
-    )
 
 returns-5 : tie.Need-returns-5 Inv-loop μ-loop
 returns-5 c =

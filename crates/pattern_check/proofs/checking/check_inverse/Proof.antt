@@ -1,5 +1,5 @@
--- `pattern_check::checking::check_inverse` tells what `checkAs` says: refusal 1 for the length; accepted if the one pass finds a pattern, whose inverse it leaves;
--- else the first fault, and then what is accepted would be a pattern.
+-- `pattern_check::checking::check_inverse` tells what `checkAs` says: refusal 1 for the length; accepted if the one pass finds a pattern, whose inverse it
+-- leaves; else the first fault, since what is accepted would be a pattern.
 -- Assumes nothing.
 use mathlib.Core.Path.{ap, _∙_}
 use mathlib.Core.Bool.{true, true≢false}
