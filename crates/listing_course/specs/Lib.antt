@@ -1,3 +1,4 @@
 pub mod Course
 pub mod InPlace
 pub mod Onward
+pub mod Seeking
