@@ -1,5 +1,5 @@
--- Courses level by level. A course makes a pattern, and no other course makes it; up a course each step is that of the next level that is met; down from a rank
--- each level is that of the rank.
+-- Courses level by level. A course makes a pattern, and no other course makes it; up a course each step is that of the next level that is met; down from a
+-- pattern each level is that of the step that made it.
 -- Assumes nothing.
 use mathlib.Core.Path.{_≡_, refl, sym, ap, _∙_}
 use mathlib.Core.Logic.{_≢_}
@@ -10,9 +10,7 @@ use lib.ListN.{length, set, length-set}
 use borrow.Author.Tests.{eq-eqb, ne-eqb}
 use Rattle.listing.specs.Numbers.{Among}
 use Rattle.listing.specs.Pattern.{entry, Derangement}
-use Rattle.listing.specs.Count.{count}
 use Rattle.listing.specs.Steps.{Letter, byA, byB, shorter, step, stepA, stepB}
-use Rattle.listing.specs.Listing.{listing, at}
 use Rattle.listing.proofs.Numbers.{either, same?}
 use Rattle.listing.proofs.Panels.{entry-same, entry-other}
 use Rattle.listing.proofs.Shorter.{shorter-first, step-derangement, made-once}
@@ -138,7 +136,7 @@ up-B {c = c} {n = n} {m = m} C h e =
 
 -- ---- one level more on a course
 
-on-A : {c : List ℕ} {m : ℕ} → Course c (suc m) → Among (suc m) (entry c (suc (suc m))) → Course c (suc (suc m))
+pub on-A : {c : List ℕ} {m : ℕ} → Course c (suc m) → Among (suc m) (entry c (suc (suc m))) → Course c (suc (suc m))
 on-A {c = c} {m = m} C fits =
     record {
       below = λ k h. either (same? k (suc (suc m))) (λ e. rw e (omega arith)) (λ d. C .below k (omega arith));
@@ -146,7 +144,7 @@ on-A {c = c} {m = m} C fits =
       met = λ h. omega arith;
     }
 
-on-B : {c : List ℕ} {m : ℕ} → Course c m → entry c (suc m) ≡ 0 → Among (suc m) (entry c (suc (suc m))) → Course c (suc (suc m))
+pub on-B : {c : List ℕ} {m : ℕ} → Course c m → entry c (suc m) ≡ 0 → Among (suc m) (entry c (suc (suc m))) → Course c (suc (suc m))
 on-B {c = c} {m = m} C z fits =
     record {
       below = λ k h.
@@ -158,20 +156,19 @@ on-B {c = c} {m = m} C z fits =
       met = λ h. omega arith;
     }
 
--- ---- down from a rank
+-- ---- down from a pattern
 
 -- at first nothing is chosen
-pub traced-start : {n r : ℕ} (c : List ℕ) → r < count n → Traced c n r n r
-traced-start c h = record { most = omega arith; below = h; whole = λ d C same. C }
+pub traced-start : {n : ℕ} {p : List ℕ} (c : List ℕ) → Traced c n p n p
+traced-start c = record { most = omega arith; whole = λ d C same. C }
 
-module _ {n r0 m r i s : ℕ} (c : List ℕ) (T : Traced c n r0 (suc (suc m)) r) (room : n ≤ length c) (fits : Among (suc m) i) where
+module _ {n m i : ℕ} {p u t : List ℕ} (c : List ℕ) (T : Traced c n p (suc (suc m)) u) (room : n ≤ length c) (fits : Among (suc m) i) where
   -- the level is that of a step by A
-  pub traced-A : s < count (suc m) → stepA (suc (suc m)) i (at (suc m) s) ≡ at (suc (suc m)) r → Traced (set c (suc m) i) n r0 (suc m) s
-  traced-A b e =
+  pub traced-A : stepA (suc (suc m)) i t ≡ u → Traced (set c (suc m) i) n p (suc m) t
+  traced-A e =
       let top = T .most in
       record {
         most = omega arith;
-        below = b;
         whole = λ d C same.
             let i′ : entry d (suc (suc m)) ≡ i = same (suc (suc m)) (omega arith) top ∙ entry-same c (suc m) i (omega arith) in
             T .whole d
@@ -183,13 +180,12 @@ module _ {n r0 m r i s : ℕ} (c : List ℕ) (T : Traced c n r0 (suc (suc m)) r)
       }
 
   -- or by B, which skips the level below
-  pub traced-B : s < count m → stepB (suc (suc m)) i (at m s) ≡ at (suc (suc m)) r → Traced (set (set c (suc m) i) m 0) n r0 m s
-  traced-B b e =
+  pub traced-B : stepB (suc (suc m)) i t ≡ u → Traced (set (set c (suc m) i) m 0) n p m t
+  traced-B e =
       let top = T .most in
       let c′ = set c (suc m) i in
       record {
         most = omega arith;
-        below = b;
         whole = λ d C same.
             let i′ : entry d (suc (suc m)) ≡ i =
             same (suc (suc m)) (omega arith) top ∙ entry-other c′ m 0 (suc (suc m)) (omega arith) ∙ entry-same c (suc m) i (omega arith) in
@@ -202,10 +198,7 @@ module _ {n r0 m r i s : ℕ} (c : List ℕ) (T : Traced c n r0 (suc (suc m)) r)
             (λ k h l. same k (omega arith) l ∙ entry-other c′ m 0 k (omega arith) ∙ entry-other c (suc m) i k (omega arith));
       }
 
--- with no ports left the course is that of the rank
-pub traced-end : {n r0 m r : ℕ} (c : List ℕ) → Traced c n r0 m r → m ≡ 0 → CourseOf c n r0
-unfolding built count at listing
-traced-end {r = r} c T e =
-    let b = rw e at (T .below) in
-    let z : r ≡ 0 = omega arith in
-    T .whole c (rw (e, z) (record { course = course-none c; makes = refl })) (λ k h l. refl)
+-- with no ports left the course is whole
+pub traced-end : {n m : ℕ} {p t : List ℕ} (c : List ℕ) → Traced c n p m t → m ≡ 0 → t ≡ [] → CourseOf c n p
+unfolding built
+traced-end c T e z = T .whole c (rw (e, z) (record { course = course-none c; makes = refl })) (λ k h l. refl)

@@ -3,4 +3,5 @@ pub mod Courses
 pub mod InPlace
 pub mod Inverse
 pub mod Onward
+pub mod Seeking
 pub mod Worked

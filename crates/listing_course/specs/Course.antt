@@ -9,9 +9,7 @@ use mathlib.Core.List.{List, []}
 use lib.Dec.{eqb}
 use Rattle.listing.specs.Numbers.{Among}
 use Rattle.listing.specs.Pattern.{entry}
-use Rattle.listing.specs.Count.{count}
 use Rattle.listing.specs.Steps.{stepA, stepB}
-use Rattle.listing.specs.Listing.{at}
 
 -- the pattern of n ports that a course makes: by B if the level below is skipped, else by A
 unfoldable pub built : List ℕ → ℕ → List ℕ
@@ -27,14 +25,17 @@ pub record Course (c : List ℕ) (n : ℕ) : Type 0 where
   pub apart : (k : ℕ) → 1 ≤ k → k < n → entry c k ≡ 0 → entry c (suc k) ≢ 0
   pub met : 1 ≤ n → entry c n ≢ 0
 
--- c is the course of the pattern of rank r
-pub record CourseOf (c : List ℕ) (n r : ℕ) : Type 0 where
+-- c is the course of the pattern p
+pub record CourseOf (c : List ℕ) (n : ℕ) (p : List ℕ) : Type 0 where
   pub course : Course c n
-  pub makes : built c n ≡ at n r
+  pub makes : built c n ≡ p
 
--- the levels above m are chosen on the way down from rank r0 of n ports, and rank r of m ports is left: every course that makes the pattern of rank r, with the
--- numbers above m as they stand, is that of r0
-pub record Traced (c : List ℕ) (n r0 m r : ℕ) : Type 0 where
+-- d has the numbers of c at the levels above m, up to n
+abbrev pub Agrees : List ℕ → List ℕ → ℕ → ℕ → Type 0
+Agrees c d m n = (k : ℕ) → m < k → k ≤ n → entry d k ≡ entry c k
+
+-- the levels above m are chosen on the way down from the pattern p of n ports, and the pattern t of m ports is left: every course of t with the numbers above m
+-- as they stand is one of p
+pub record Traced (c : List ℕ) (n : ℕ) (p : List ℕ) (m : ℕ) (t : List ℕ) : Type 0 where
   pub most : m ≤ n
-  pub below : r < count m
-  pub whole : (d : List ℕ) → CourseOf d m r → ((k : ℕ) → m < k → k ≤ n → entry d k ≡ entry c k) → CourseOf d n r0
+  pub whole : (d : List ℕ) → CourseOf d m t → Agrees c d m n → CourseOf d n p

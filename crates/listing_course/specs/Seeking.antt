@@ -12,7 +12,7 @@ use Rattle.listing.specs.Pattern.{entry}
 use Rattle.listing.specs.Steps.{Letter, byA, byB}
 use Rattle.listing.specs.Reading.{comesFirst}
 use Rattle.listing.specs.Orders.{Move}
-use Rattle.listing_course.specs.Course.{Course}
+use Rattle.listing_course.specs.Course.{Course, Agrees}
 use Rattle.listing_course.specs.Onward.{readAt, isOpen, row, goesOn}
 
 -- B or A
@@ -51,3 +51,9 @@ Sought c n back k inner = (bottom : Bool) × (readAt c bottom n ≡ not back) ×
 -- a move v of the list for m ports, lifted up the course, is the move w of the list for n
 abbrev pub Lifted : List ℕ → ℕ → Move → ℕ → Move → Type 0
 Lifted c m v n w = (bottom : Bool) → goesOn c bottom m ≡ some v → goesOn c bottom n ≡ some w
+
+-- on the way down from n ports, where the list for n is read forward or backward and the list for m is read here, the lowest level found open above m is k, or
+-- none: so it is of every course with the numbers above m as they stand, if the list for m ports ends
+pub record Seeking (c : List ℕ) (n : ℕ) (forward : Bool) (m : ℕ) (here : Bool) (k : ℕ) (inner : Bool) : Type 0 where
+  pub seen : (d : List ℕ) (bottom : Bool) → Course d m → Agrees c d m n → readAt d bottom m ≡ here
+      → (readAt d bottom n ≡ forward) × (goesOn d bottom m ≡ none → Found d bottom n k inner)

@@ -2,14 +2,16 @@
 -- Assumes nothing.
 use mathlib.Core.Path.{_≡_, sym, ap, _∙_}
 use mathlib.Core.Logic.{_≢_}
-use mathlib.Core.List.{List}
-use Prim.Native.Nat.{ℕ, suc, _+_, _-_, _≤_, _<_}
+use mathlib.Core.List.{List, []}
+use Prim.Native.Nat.{ℕ, zero, suc, _+_, _-_, _≤_, _<_}
 use native.Mathlib.Numerals.{add-one}
 use native.Mathlib.Omega.{arith}
 use lib.ListN.{length, take, getD, set}
 use Rattle.listing.specs.Numbers.{Among}
 use Rattle.listing.specs.Pattern.{Derangement}
+use Rattle.listing.specs.Count.{count}
 use Rattle.listing.specs.Steps.{stepA, stepB}
+use Rattle.listing.specs.Listing.{listing, at}
 use Rattle.listing.proofs.Numbers.{from-two}
 use Rattle.listing_course.specs.Course.{built, Course, Traced}
 use Rattle.listing_course.proofs.Courses.{built-pattern, up-A, up-B, traced-A, traced-B}
@@ -19,27 +21,38 @@ use Rattle.pattern_course.proofs.Origins.{Makes}
 -- ---- down
 
 -- the level that a rank names is written, by A
-pub down-A : {n r0 : ℕ} (m r i s : ℕ) (c : List ℕ) → 2 ≤ m → Traced c n r0 m r → n ≤ length c → Makes m r (ByA i s) → Traced (set c (m - 1) i) n r0 (m - 1) s
-down-A {n = n} {r0 = r0} m r i s c two =
-    from-two (λ m. Traced c n r0 m r → n ≤ length c → Makes m r (ByA i s) → Traced (set c (m - 1) i) n r0 (m - 1) s)
+pub down-A : {n : ℕ} {p : List ℕ} (m r i s : ℕ) (c : List ℕ) → 2 ≤ m → Traced c n p m (at m r) → n ≤ length c → Makes m r (ByA i s)
+    → (s < count (m - 1)) × Traced (set c (m - 1) i) n p (m - 1) (at (m - 1) s)
+down-A {n = n} {p = p} m r i s c two =
+    from-two
+    (λ m. Traced c n p m (at m r) → n ≤ length c → Makes m r (ByA i s)
+    → (s < count (m - 1)) × Traced (set c (m - 1) i) n p (m - 1) (at (m - 1) s))
     (λ k T room made.
     let z : suc (suc k) - 1 ≡ suc k = omega arith in
     let o = rw z at made in
-    rw z (traced-A c T room (o .0) (o .1) (o .2)))
+    rw z (o .1, traced-A c T room (o .0) (o .2)))
     m two
 
 -- and by B, with 0 for the level that is skipped
-pub down-B : {n r0 : ℕ} (m r i s : ℕ) (c : List ℕ) → 2 ≤ m → Traced c n r0 m r → n ≤ length c → Makes m r (ByB i s)
-    → Traced (set (set c (m - 1) i) (m - 1 - 1) 0) n r0 (m - 2) s
-down-B {n = n} {r0 = r0} m r i s c two =
-    from-two (λ m. Traced c n r0 m r → n ≤ length c → Makes m r (ByB i s) → Traced (set (set c (m - 1) i) (m - 1 - 1) 0) n r0 (m - 2) s)
+pub down-B : {n : ℕ} {p : List ℕ} (m r i s : ℕ) (c : List ℕ) → 2 ≤ m → Traced c n p m (at m r) → n ≤ length c → Makes m r (ByB i s)
+    → (s < count (m - 2)) × Traced (set (set c (m - 1) i) (m - 1 - 1) 0) n p (m - 2) (at (m - 2) s)
+down-B {n = n} {p = p} m r i s c two =
+    from-two
+    (λ m. Traced c n p m (at m r) → n ≤ length c → Makes m r (ByB i s)
+    → (s < count (m - 2)) × Traced (set (set c (m - 1) i) (m - 1 - 1) 0) n p (m - 2) (at (m - 2) s))
     (λ k T room made.
     let z : suc (suc k) - 1 ≡ suc k = omega arith in
     let y : suc k - 1 ≡ k = omega arith in
     let x : suc (suc k) - 2 ≡ k = omega arith in
     let o = rw (z, x) at made in
-    rw (z, y, x) (traced-B c T room (o .0) (o .1) (o .2)))
+    rw (z, y, x) (o .1, traced-B c T room (o .0) (o .2)))
     m two
+
+-- with no ports left, nothing is left
+pub none-left : (m s : ℕ) → m ≡ 0 → at m s ≡ []
+unfolding at listing
+none-left m zero e = rw e
+none-left m (suc s) e = rw e
 
 -- ---- up
 

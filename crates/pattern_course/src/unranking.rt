@@ -35,7 +35,7 @@ fn origin(n: u8, rank: u64) -> Origin
 // The course of the pattern of a rank, from the last level down: the number of level k at place k - 1, and 0 for a level that B skips.
 fn course_of(n: u8, rank: u64) -> [u8; LONGEST]
     requires { ⌜ (n ≤ mostPorts) × (rank < count n) ⌝ }
-    ensures { λ r. ⌜ CourseOf r n rank ⌝ }
+    ensures { λ r. ⌜ CourseOf r n (at n rank) ⌝ }
 {
     let mut levels = [0u8; LONGEST];
     let mut m = n;
