@@ -16,8 +16,7 @@ ghost use lib.ListN.{length};
 ghost use Rattle.words.specs.Told.{accepted};
 ghost use Rattle.words.specs.Meaning.{outcomeTold};
 ghost use Rattle.listing.specs.Limits.{mostPorts};
-ghost use Rattle.listing_course.specs.InPlace.{Inverted};
-ghost use Rattle.pattern_inverse.specs.Judged.{Blank};
+ghost use Rattle.pattern_inverse.specs.Judged.{Blank, TakenIn};
 ghost use Rattle.pattern_check.specs.Faults.{faultOf, faultTold};
 ghost use Rattle.pattern_check.specs.Calls.{inSize, checkAs};
 ghost use Rattle.pattern_check.specs.Answers.{faultIs};
@@ -92,17 +91,20 @@ fn refusal_of(f: Fault) -> Outcome
     }
 }
 
-// Whether p is a pattern of 2 to 20 ports; if it is, its inverse is left in q. One pass accepts, and what it does not accept the first fault refuses.
-pub fn check_inverse(p: &[u8], q: &mut [u8; LONGEST]) -> Outcome
-    requires { ⌜ (length (now q) ≡ mostPorts) × Blank (now q) ⌝ }
+// Whether p is a pattern of 2 to 20 ports; if it is, the arrays begin with it and with its inverse. One pass accepts, and what it does not accept the first
+// fault refuses.
+pub fn check_inverse(p: &[u8], copy: &mut [u8; LONGEST], inverse: &mut [u8; LONGEST]) -> Outcome
+    requires { ⌜ (length (now copy) ≡ mostPorts) × (length (now inverse) ≡ mostPorts) × Blank (now inverse) ⌝ }
     ensures answer { λ r. ⌜ outcomeTold r ≡ checkAs true mostPorts (now (p .entry)) ⌝ }
-    ensures long { λ _. ⌜ length (now (q .exit)) ≡ mostPorts ⌝ }
-    ensures inverse { λ _. ⌜ (accepted tt ≡ checkAs true mostPorts (now (p .entry)) → Inverted (now (p .entry)) (length (now (p .entry))) (now (q .exit))) ⌝ }
+    ensures long { λ _. ⌜ length (now (copy .exit)) ≡ mostPorts ⌝ }
+    ensures long_back { λ _. ⌜ length (now (inverse .exit)) ≡ mostPorts ⌝ }
+    ensures inverse { λ _. ⌜ (accepted tt ≡ checkAs true mostPorts (now (p .entry))
+        → TakenIn (now (p .entry)) (now (copy .exit)) (now (inverse .exit))) ⌝ }
 {
     if !in_size(p.len()) {
         return Outcome::Refused(nowhere(Reason::Ports));
     }
-    if invert(p, q) {
+    if invert(p, copy, inverse) {
         return Outcome::Accepted;
     }
     refusal_of(fault(p, true))
@@ -112,8 +114,9 @@ pub fn check_inverse(p: &[u8], q: &mut [u8; LONGEST]) -> Outcome
 pub fn check(p: &[u8]) -> Outcome
     ensures { λ r. ⌜ outcomeTold r ≡ checkAs true mostPorts (now (p .entry)) ⌝ }
 {
+    let mut copy = [0u8; LONGEST];
     let mut inverse = [0u8; LONGEST];
-    check_inverse(p, &mut inverse)
+    check_inverse(p, &mut copy, &mut inverse)
 }
 
 // Whether p is a panel of 2 to 20 ports: a permutation, in which a port may stand at its own jack.

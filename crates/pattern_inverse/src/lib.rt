@@ -1,4 +1,4 @@
-// A pattern accepted in one pass, which leaves its inverse: at each port its jack, port 1 first.
+// A pattern accepted in one pass, which leaves a working copy of it and its inverse: at each port its jack, port 1 first.
 use words::limits::LONGEST;
 ghost use mathlib.Core.Path.{_≡_};
 ghost use Prim.Native.Nat.{_≤_};
@@ -6,11 +6,12 @@ ghost use lib.ListN.{length};
 ghost use Rattle.listing.specs.Limits.{mostPorts};
 ghost use Rattle.pattern_inverse.specs.Judged.{Blank, Judged};
 
-// Whether p is a pattern; if it is, its inverse is left in q. A port that q already has a jack for stands at two jacks.
-pub fn invert(p: &[u8], q: &mut [u8; LONGEST]) -> bool
-    requires { ⌜ (length (now q) ≡ mostPorts) × (length (now p) ≤ mostPorts) × Blank (now q) ⌝ }
-    ensures long { λ _. ⌜ length (now (q .exit)) ≡ mostPorts ⌝ }
-    ensures judged { λ r. ⌜ Judged r (now (p .entry)) (now (q .exit)) ⌝ }
+// Whether p is a pattern; if it is, the arrays begin with it and with its inverse. A port that the inverse already has a jack for stands at two jacks.
+pub fn invert(p: &[u8], copy: &mut [u8; LONGEST], inverse: &mut [u8; LONGEST]) -> bool
+    requires { ⌜ (length (now copy) ≡ mostPorts) × (length (now inverse) ≡ mostPorts) × (length (now p) ≤ mostPorts) × Blank (now inverse) ⌝ }
+    ensures long { λ _. ⌜ length (now (copy .exit)) ≡ mostPorts ⌝ }
+    ensures long_back { λ _. ⌜ length (now (inverse .exit)) ≡ mostPorts ⌝ }
+    ensures judged { λ r. ⌜ Judged r (now (p .entry)) (now (copy .exit)) (now (inverse .exit)) ⌝ }
 {
     let n = p.len();
     let mut at: usize = 0;
@@ -26,10 +27,11 @@ pub fn invert(p: &[u8], q: &mut [u8; LONGEST]) -> bool
         if port == next {
             return false;
         }
-        if q[port - 1] != 0 {
+        if inverse[port - 1] != 0 {
             return false;
         }
-        q[port - 1] = next as u8;
+        copy[at] = p[at];
+        inverse[port - 1] = next as u8;
         at = next;
     }
     true
