@@ -1,8 +1,8 @@
--- One level of a pattern's place: the step that it came by, what is passed over, and that the sum fits 64 bits.
+-- One level of a pattern's place: what is passed over, the place of the shorter pattern, and that the sum fits 64 bits.
 -- Assumes nothing.
 use mathlib.Core.Path.{_≡_, refl, _∙_}
 use mathlib.Core.Logic.{_≢_}
-use mathlib.Core.Bool.{Bool, true, false, not, cond, Bool·beq}
+use mathlib.Core.Bool.{Bool, true, false, cond}
 use mathlib.Core.List.{List}
 use Prim.Native.Nat.{ℕ, zero, suc, _+_, _*_, _-_, _≤_, _<_}
 use native.Mathlib.Nat.{mul-le-mul-right}
@@ -17,40 +17,14 @@ use Rattle.listing.specs.Steps.{Letter, byA, byB, shorter, back, letter}
 use Rattle.listing.specs.Rank.{perBlock, turned, rank}
 use Rattle.listing.specs.Reading.{other, comesFirst, passed}
 use Rattle.listing.specs.Limits.{mostPorts}
-use Rattle.listing.proofs.Counts.{two-ports, count-blocks}
-use Rattle.listing.proofs.Shorter.{end-fits, letter-back}
-use Rattle.listing.proofs.Ranks.{rank-below}
+use Rattle.listing.proofs.Counts.{count-blocks}
 use Rattle.listing.proofs.Reading.{rank-read}
 use Rattle.listing_course.specs.InPlace.{WithInverse}
-use Rattle.pattern_ranks.specs.Levels.{cameOf, letterOf, endOf, Peeled, LevelOf, Placing}
+use Rattle.pattern_levels.specs.Levels.{cameOf, letterOf, endOf, Peeled}
+use Rattle.pattern_levels.specs.declared.types.Came.{Came}
+use Rattle.pattern_levels.proofs.Came.{as-came, two-jacks, shorter-fewer}
+use Rattle.pattern_ranks.specs.Levels.{LevelOf, Placing}
 use Rattle.pattern_ranks.specs.declared.types.Level.{Level}
-use Rattle.pattern_ranks.specs.declared.types.Came.{Came}
-
--- ---- the step that a pattern came by
-
--- which step it was, and the entry at the last jack
-as-came : (c : Came) (w : Letter) (i : ℕ) → c ≡ cameOf w i → (w ≡ letterOf c) × (i ≡ endOf c)
-as-came c byA i e = rw e (refl, refl)
-as-came c byB i e = rw e (refl, refl)
-
--- a pattern with a port has two
-two-jacks : {n : ℕ} {p : List ℕ} → n ≢ 0 → Derangement n p → 2 ≤ n
-two-jacks {n = n} {p = p} h D = two-ports h (rank-below n p D)
-
--- the entry at the last jack is 1 to n - 1
-pub end-among : {n : ℕ} {p : List ℕ} {c : Came} → 2 ≤ n → Derangement n p → c ≡ cameOf (letter n p) (entry p n) → Among (n - 1) (endOf c)
-end-among {n = zero} h D e = absurd (omega arith)
-end-among {n = suc zero} h D e = absurd (omega arith)
-end-among {n = suc (suc m)} {p = p} {c = c} h D e = rw (← as-came c (letter (suc (suc m)) p) (entry p (suc (suc m))) e .1) (omega (arith, end-fits m p D))
-
--- ---- the first part of a block
-
--- by A where i is odd and the list is read forward, or neither; by B where one of the two
-pub sides : (b forward : Bool) → (Bool·beq b forward ≡ cond forward b (not b)) × (not (Bool·beq b forward) ≡ cond forward (not b) b)
-sides true true = (refl, refl)
-sides true false = (refl, refl)
-sides false true = (refl, refl)
-sides false false = (refl, refl)
 
 -- ---- what is passed over
 
@@ -83,31 +57,30 @@ passed-inside forward w {n = n} {i = i} h fits ek es ep =
 
 -- ---- the place
 
--- the shorter pattern has fewer ports
-shorter-fewer : (w : Letter) (m : ℕ) → shorter w (suc (suc m)) < suc (suc m)
-shorter-fewer byA m = omega arith
-shorter-fewer byB m = omega arith
-
 -- the place is what is passed over and the place of the shorter pattern, in its list read forward or backward
 place-level : (forward : Bool) {n : ℕ} {p : List ℕ} {c : Came} → 2 ≤ n → Derangement n p → c ≡ cameOf (letter n p) (entry p n)
-    → (shorter (letterOf c) n < n) × Derangement (shorter (letterOf c) n) (back (letterOf c) n p)
-    × (turned forward (count n) (rank n p)
+    → turned forward (count n) (rank n p)
     ≡ passed forward (letterOf c) n (endOf c)
-    + turned (comesFirst forward (letterOf c) (endOf c)) (count (shorter (letterOf c) n)) (rank (shorter (letterOf c) n) (back (letterOf c) n p)))
+    + turned (comesFirst forward (letterOf c) (endOf c)) (count (shorter (letterOf c) n)) (rank (shorter (letterOf c) n) (back (letterOf c) n p))
 place-level forward {n = zero} h D e = absurd (omega arith)
 place-level forward {n = suc zero} h D e = absurd (omega arith)
 place-level forward {n = suc (suc m)} {p = p} {c = c} h D e =
     let n = suc (suc m) in
     let a = as-came c (letter n p) (entry p n) e in
-    rw (← a .0, ← a .1) (shorter-fewer (letter n p) m, letter-back m p D .0, rank-read forward m p (letter n p) D refl)
+    rw (← a .0, ← a .1) (rank-read forward m p (letter n p) D refl)
 
 -- so the level that code computes is that of the law
 pub level-of : {forward : Bool} {n : ℕ} {t a b : List ℕ} {c : Came} (l : Level) → 2 ≤ n → Derangement n t → Peeled n t c a b
     → l .passed ≡ passed forward (letterOf c) n (endOf c) → l .forward ≡ comesFirst forward (letterOf c) (endOf c) → l .ports ≡ shorter (letterOf c) n
     → LevelOf forward n t l a b
-level-of {forward = forward} {n = n} l h D s ex ef ek =
-    let law = rw (← ex, ← ef, ← s .shown, ← ek) at (place-level forward h D (s .came)) in
-    record { fewer = law .0; long = s .long; long-back = s .long-back; arrays = rw ek (s .arrays); place = law .2 }
+level-of {forward = forward} {n = n} {c = c} l h D s ex ef ek =
+    record {
+      fewer = rw ek (shorter-fewer (letterOf c) n h);
+      long = s .long;
+      long-back = s .long-back;
+      arrays = rw ek (s .arrays);
+      place = rw (← ex, ← ef, ← s .shown, ← ek) at (place-level forward h D (s .came));
+    }
 
 -- what a level asks of the arrays of a pattern that is to be placed
 pub level-asked : {forward : Bool} {n x : ℕ} {a b : List ℕ} → n ≢ 0 → Placing forward n a b x

@@ -1,36 +1,26 @@
 // The place of a pattern in the list and in the reversed list, level by level.
-use crate::peeling::peel;
-use crate::types::Came;
 use crate::types::Level;
-use pattern_carry::panels::load;
+use pattern_levels::peeling::peel;
+use pattern_levels::telling::block_of;
+use pattern_levels::telling::comes_first;
+use pattern_levels::telling::ports_below;
+use pattern_levels::types::Came;
 use pattern_steps::counts::Parts;
 use pattern_steps::counts::parts_of;
-use pattern_steps::numbers::is_odd;
 use words::limits::LONGEST;
 ghost use mathlib.Core.Path.{_≡_};
 ghost use mathlib.Core.Bool.{true, false, cond};
 ghost use Prim.Native.Nat.{suc, _+_, _-_, _≤_};
 ghost use lib.ListN.{length, take};
 ghost use Rattle.listing.specs.Numbers.{Among, before};
-ghost use Rattle.listing.specs.Pattern.{Derangement};
 ghost use Rattle.listing.specs.Count.{count};
-ghost use Rattle.listing.specs.Steps.{shorter};
 ghost use Rattle.listing.specs.Rank.{fromEnd, rank};
 ghost use Rattle.listing.specs.Reading.{other, comesFirst, passed};
 ghost use Rattle.listing.specs.Limits.{mostPorts};
 ghost use Rattle.pattern_steps.specs.Blocks.{partOf};
-ghost use Rattle.listing_course.specs.InPlace.{Inverted, WithInverse};
-ghost use Rattle.pattern_ranks.specs.Levels.{letterOf, endOf, LevelOf, Placing};
-
-// Whether the patterns by a step are the first part of their block, in the list read forward or backward.
-fn comes_first(forward: bool, c: Came) -> bool
-    ensures { λ r. ⌜ r ≡ comesFirst forward (letterOf c) (endOf c) ⌝ }
-{
-    match c {
-        Came::ByA(i) => is_odd(i) == forward,
-        Came::ByB(i) => is_odd(i) != forward,
-    }
-}
+ghost use Rattle.listing_course.specs.InPlace.{WithInverse};
+ghost use Rattle.pattern_levels.specs.Levels.{letterOf, endOf};
+ghost use Rattle.pattern_ranks.specs.Levels.{LevelOf, Placing};
 
 // How many blocks come before block i, in the list read forward or backward.
 fn blocks_before(forward: bool, n: u8, i: u8) -> u8
@@ -38,16 +28,6 @@ fn blocks_before(forward: bool, n: u8, i: u8) -> u8
     ensures { λ r. ⌜ r ≡ cond forward (before i) (n - suc i) ⌝ }
 {
     if forward { i - 1 } else { n - 1 - i }
-}
-
-// The block that a pattern stands in.
-fn block_of(c: Came) -> u8
-    ensures { λ r. ⌜ r ≡ endOf c ⌝ }
-{
-    match c {
-        Came::ByA(i) => i,
-        Came::ByB(i) => i,
-    }
 }
 
 // How many patterns of a block come before the part in which a pattern stands: none, or those by the other step.
@@ -71,17 +51,6 @@ fn passed_over(forward: bool, n: u8, c: Came) -> u64
     let parts = parts_of(n);
     let blocks = blocks_before(forward, n, block_of(c)) as u64;
     blocks * (parts.0 + parts.1) + first_part(forward, parts, c)
-}
-
-// How many ports the shorter pattern has.
-fn ports_below(c: Came, n: u8) -> u8
-    requires { ⌜ 2 ≤ n ⌝ }
-    ensures { λ r. ⌜ r ≡ shorter (letterOf c) n ⌝ }
-{
-    match c {
-        Came::ByA(_) => n - 1,
-        Came::ByB(_) => n - 2,
-    }
 }
 
 // One level of the place of the pattern in p, whose inverse is in q, in the list read forward or backward. The shorter pattern is left there.
@@ -127,12 +96,10 @@ fn place_back(p: &mut [u8; LONGEST], q: &mut [u8; LONGEST], n: u8, passed: u64) 
     place_back(p, q, l.ports, passed + l.passed)
 }
 
-// The rank of a lent pattern, on one working copy and its inverse, which is used up.
-pub fn rank_of(p: &[u8], q: &mut [u8; LONGEST]) -> u64
-    requires { ⌜ (length (now q) ≡ mostPorts) × (length (now p) ≤ mostPorts) × Derangement (length (now p)) (now p)
-        × Inverted (now p) (length (now p)) (now q) ⌝ }
-    ensures { λ r. ⌜ r ≡ rank (length (now (p .entry))) (now (p .entry)) ⌝ }
+// The rank of the pattern of n ports that the copy begins with; the copy and the inverse are used up.
+pub fn rank_of(copy: &mut [u8; LONGEST], inverse: &mut [u8; LONGEST], n: u8) -> u64
+    requires { ⌜ (length (now copy) ≡ mostPorts) × (length (now inverse) ≡ mostPorts) × (n ≤ mostPorts) × WithInverse n (now copy) (now inverse) ⌝ }
+    ensures { λ r. ⌜ r ≡ rank n (take n (now (copy .entry))) ⌝ }
 {
-    let mut copy = load(p);
-    place(&mut copy, q, p.len() as u8, 0)
+    place(copy, inverse, n, 0)
 }

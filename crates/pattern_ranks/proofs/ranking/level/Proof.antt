@@ -1,7 +1,8 @@
 -- `pattern_ranks::ranking::level` meets its contract: the letter that the pattern came by and what it passes over are those of the law of the place.
 -- Assumes nothing.
 use borrow.Author.Needs.{needs}
-use Rattle.pattern_ranks.proofs.Passing.{end-among, level-of}
+use Rattle.pattern_levels.proofs.Came.{end-among}
+use Rattle.pattern_ranks.proofs.Passing.{level-of}
 use Rattle.pattern_ranks.proofs.ranking.level.Statement.{statement}
 use Rattle.pattern_ranks.proofs.ranking.level.Tie as tie
 

@@ -6,7 +6,7 @@ use borrow.Author.Needs.{needs}
 use Rattle.listing.specs.Reading.{passed, other}
 use Rattle.listing.proofs.Limits.{count-most}
 use Rattle.pattern_steps.proofs.Blocks.{part-count, parts-size, parts-fit}
-use Rattle.pattern_ranks.specs.Levels.{letterOf}
+use Rattle.pattern_levels.specs.Levels.{letterOf}
 use Rattle.pattern_ranks.proofs.Passing.{passed-inside}
 use Rattle.pattern_ranks.proofs.ranking.passed_over.Statement.{statement}
 use Rattle.pattern_ranks.proofs.ranking.passed_over.Tie as tie

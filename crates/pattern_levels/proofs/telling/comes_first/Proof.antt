@@ -1,10 +1,10 @@
--- `pattern_ranks::ranking::comes_first` meets its contract: by the step, the block's parity and the way to read.
+-- `pattern_levels::telling::comes_first` meets its contract: by the step, the block's parity and the way to read.
 -- Assumes nothing.
 use borrow.Author.Needs.{needs}
 use Rattle.listing.specs.Numbers.{odd}
-use Rattle.pattern_ranks.proofs.Passing.{sides}
-use Rattle.pattern_ranks.proofs.ranking.comes_first.Statement.{statement}
-use Rattle.pattern_ranks.proofs.ranking.comes_first.Tie as tie
+use Rattle.pattern_levels.proofs.Came.{sides}
+use Rattle.pattern_levels.proofs.telling.comes_first.Statement.{statement}
+use Rattle.pattern_levels.proofs.telling.comes_first.Tie as tie
 
 returns : tie.Need-returns
 returns c =

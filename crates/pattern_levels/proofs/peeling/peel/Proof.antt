@@ -1,13 +1,13 @@
--- `pattern_ranks::peeling::peel` meets its contract: the inverse tells the letter, and each step back is that of the laws on both arrays.
+-- `pattern_levels::peeling::peel` meets its contract: the inverse tells the letter, and each step back is that of the laws on both arrays.
 -- Assumes nothing.
 use native.Mathlib.Omega.{arith}
 use borrow.Author.Needs.{needs}
 use Prim.Native.Nat.{_-_}
 use lib.ListN.{getD}
 use Rattle.listing.specs.Numbers.{Among}
-use Rattle.pattern_ranks.proofs.Taken.{ends, taken-A, taken-B}
-use Rattle.pattern_ranks.proofs.peeling.peel.Statement.{statement}
-use Rattle.pattern_ranks.proofs.peeling.peel.Tie as tie
+use Rattle.pattern_levels.proofs.Taken.{ends, taken-A, taken-B}
+use Rattle.pattern_levels.proofs.peeling.peel.Statement.{statement}
+use Rattle.pattern_levels.proofs.peeling.peel.Tie as tie
 
 -- the partners of the last jack and of the last port
 partners : (c : tie.Start) → let a = c .args in Among (a .n) (getD (a .p .now) (a .n - 1) 0) × Among (a .n) (getD (a .q .now) (a .n - 1) 0)

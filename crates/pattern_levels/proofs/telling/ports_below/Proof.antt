@@ -1,9 +1,9 @@
--- `pattern_ranks::ranking::ports_below` meets its contract: by the step.
+-- `pattern_levels::telling::ports_below` meets its contract: by the step.
 -- Assumes nothing.
 use borrow.Author.Needs.{needs}
 use Rattle.listing.proofs.Numbers.{less-one, less-two}
-use Rattle.pattern_ranks.proofs.ranking.ports_below.Statement.{statement}
-use Rattle.pattern_ranks.proofs.ranking.ports_below.Tie as tie
+use Rattle.pattern_levels.proofs.telling.ports_below.Statement.{statement}
+use Rattle.pattern_levels.proofs.telling.ports_below.Tie as tie
 
 pub ports-below-spec : {M : Type 1} → statement M
 ports-below-spec =

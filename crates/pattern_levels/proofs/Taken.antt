@@ -14,8 +14,8 @@ use Rattle.listing.proofs.Numbers.{from-two}
 use Rattle.listing.proofs.Panels.{entry-take, entry-front}
 use Rattle.listing_course.specs.InPlace.{WithInverse}
 use Rattle.listing_course.proofs.Inverse.{inverse-at, back-A, back-B}
-use Rattle.pattern_ranks.specs.Levels.{Peeled}
-use Rattle.pattern_ranks.specs.declared.types.Came.the-variants.{ByA, ByB}
+use Rattle.pattern_levels.specs.Levels.{Peeled}
+use Rattle.pattern_levels.specs.declared.types.Came.the-variants.{ByA, ByB}
 
 -- the partners of the last jack and of the last port
 pub ends : (n : ℕ) (a b : List ℕ) → 2 ≤ n → WithInverse n a b → Among n (getD a (n - 1) 0) × Among n (getD b (n - 1) 0)

@@ -7,7 +7,7 @@ ghost use Prim.Native.Nat.{_≤_};
 ghost use lib.ListN.{length, take};
 ghost use Rattle.listing.specs.Limits.{mostPorts};
 ghost use Rattle.listing_course.specs.InPlace.{WithInverse};
-ghost use Rattle.pattern_ranks.specs.Levels.{Peeled};
+ghost use Rattle.pattern_levels.specs.Levels.{Peeled};
 
 // One level taken off the pattern of n ports in p, and off its inverse in q. With i the entry at the last jack it came by B if jack i holds the last port,
 // which the inverse tells at once; else by A, and then i goes to the jack that holds the last port.

@@ -1,0 +1,2 @@
+pub mod Came
+pub mod Taken
