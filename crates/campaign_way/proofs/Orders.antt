@@ -11,14 +11,16 @@ use lib.ListN.{length, take, drop}
 use lib.Seq.{length-take-le, take-at}
 use borrow.Author.Tests.{ne-eqb}
 use Rattle.listing.specs.Numbers.{Among}
-use Rattle.listing.specs.Pattern.{entry, Permutation}
+use Rattle.listing.specs.Pattern.{entry, Permutation, Derangement}
 use Rattle.listing.specs.Orders.{Order, swap, carry, Move, orders, InForm}
 use Rattle.listing.specs.Count.{count}
 use Rattle.listing.specs.Listing.{at}
+use Rattle.listing.specs.Rank.{rank}
 use Rattle.listing.specs.Neighbours.{moveBeside}
 use Rattle.listing.specs.Limits.{mostPorts}
 use Rattle.listing.proofs.Numbers.{from-two}
 use Rattle.listing.proofs.Panels.{length-carry}
+use Rattle.listing.proofs.Ranks.{at-derangement, rank-at}
 use Rattle.listing.proofs.Neighbours.{beside-leads}
 use Rattle.promise.specs.Tests.{same, isPermutation}
 use Rattle.promise.specs.Carriage.{holder, carriage}
@@ -92,6 +94,16 @@ order-gone f o b e t = rw (e, t) refl
 -- the move beside a listed rank is in the paper's form
 pub beside-form : (n : ℕ) → 2 ≤ n → (back : Bool) (r : ℕ) → r < count n → InForm n (moveBeside n back r)
 beside-form n two back r h = from-two (λ n. r < count n → InForm n (moveBeside n back r)) (λ m l. beside-leads m back r l .form) n two h
+
+-- a slice that has the pattern of a rank may be asked for its neighbours
+pub listed-asked : (n r : ℕ) (t : List ℕ) → 2 ≤ n → n ≤ mostPorts → r < count n → t ≡ at n r
+    → (2 ≤ length t) × (length t ≤ mostPorts) × Derangement (length t) t
+listed-asked n r t two most l e = let D = at-derangement n r l in rw (e, D .permutation .long) (two, most, D)
+
+-- and the move beside it is that beside the rank
+pub listed-move : (n r : ℕ) (t : List ℕ) (back : Bool) (v : Move) → r < count n → t ≡ at n r → v ≡ moveBeside (length t) back (rank (length t) t)
+    → v ≡ moveBeside n back r
+listed-move n r t back v l e told = told ∙ rw (e, at-derangement n r l .permutation .long, rank-at n r l) refl
 
 -- ---- before a leg's first mark
 

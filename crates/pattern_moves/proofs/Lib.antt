@@ -1,2 +1,3 @@
-pub mod Leading
-pub mod Ranks
+pub mod Down
+pub mod Lifts
+pub mod Rows

@@ -1,1 +1,1 @@
-pub mod Lead
+pub mod Lowest

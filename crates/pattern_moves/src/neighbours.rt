@@ -1,108 +1,39 @@
-// The move from the pattern of a rank to its neighbours round the circuit.
-use crate::onward::Passage;
-use crate::onward::Row;
-use crate::onward::onward;
-use pattern_joins::changes::inverse_of;
-use pattern_joins::changes::raised_by;
-use pattern_joins::tables::closing;
-use pattern_joins::tables::hop;
-use pattern_joins::tables::join;
-use pattern_steps::counts::count_of;
-use words::Jack;
+// The move from a pattern to its neighbours round the circuit.
+use crate::onward::move_on;
+use crate::seeking::take_apart;
+use pattern_inverse::invert;
 use words::Move;
-use words::Order;
-use words::limits::FEWEST_PORTS;
+use words::limits::LONGEST;
 ghost use mathlib.Core.Path.{_≡_};
-ghost use mathlib.Core.Bool.{cond};
-ghost use Prim.Native.Nat.{_≤_, _<_};
-ghost use Rattle.listing.specs.Count.{count};
+ghost use Prim.Native.Nat.{_≤_};
+ghost use lib.ListN.{length, take};
+ghost use Rattle.listing.specs.Pattern.{Derangement};
+ghost use Rattle.listing.specs.Rank.{rank};
 ghost use Rattle.listing.specs.Limits.{mostPorts};
-ghost use Rattle.listing.specs.Orders.{inverse};
-ghost use Rattle.listing.specs.Neighbours.{nextMove, previousMove, previousRank, moveBeside};
+ghost use Rattle.listing.specs.Neighbours.{moveBeside};
+ghost use Rattle.listing_course.specs.InPlace.{WithInverse};
 ghost use Rattle.words.specs.Meaning.{moveOf};
-ghost use Rattle.pattern_moves.specs.Lead.{rowMove, RowIn};
 
-// The tables are for so many ports or more.
-const FEWEST_IN_TABLES: u8 = 4;
-
-// The move in a row of the tables.
-fn row_move(n: u8, w: Row) -> Move
-    requires { ⌜ (4 ≤ n) × (n ≤ mostPorts) × RowIn n w ⌝ }
-    ensures { λ m. ⌜ moveOf m ≡ rowMove n w ⌝ }
+// The move from the pattern of n ports in a working copy, with its inverse, to the one beside it, the next or, backward, the previous. Both arrays are used up.
+pub fn move_beside(copy: &mut [u8; LONGEST], inverse: &mut [u8; LONGEST], n: u8, back: bool) -> Move
+    requires long { ⌜ (length (now copy) ≡ mostPorts) × (length (now inverse) ≡ mostPorts) ⌝ }
+    requires ports { ⌜ (2 ≤ n) × (n ≤ mostPorts) ⌝ }
+    requires arrays { ⌜ WithInverse n (now copy) (now inverse) ⌝ }
+    ensures { λ r. ⌜ moveOf r ≡ moveBeside n back (rank n (take n (now (copy .entry)))) ⌝ }
 {
-    match w {
-        Row::Join(i) => join(n, i),
-        Row::Hop(i) => hop(n, i),
-        Row::Closing => closing(n),
-    }
+    let mut levels = [0u8; LONGEST];
+    let found = take_apart(copy, inverse, n, back, &mut levels);
+    move_on(&levels, n, back, found)
 }
 
-// A move, turned round where that is said.
-fn inverse_if(back: bool, m: Move) -> Move
-    ensures { λ r. ⌜ moveOf r ≡ cond back (inverse (moveOf m)) (moveOf m) ⌝ }
+// The same from a lent pattern.
+pub fn move_from(p: &[u8], back: bool) -> Move
+    requires { ⌜ (2 ≤ length (now p)) × (length (now p) ≤ mostPorts) × Derangement (length (now p)) (now p) ⌝ }
+    ensures { λ r. ⌜ moveOf r ≡ moveBeside (length (now (p .entry))) back (rank (length (now (p .entry))) (now (p .entry))) ⌝ }
 {
-    if back { inverse_of(m) } else { m }
-}
-
-// The move from rank r for 2 or 3 ports.
-fn least_move(n: u8, r: u64) -> Move
-    requires { ⌜ (2 ≤ n) × (n ≤ 3) ⌝ }
-    ensures { λ m. ⌜ moveOf m ≡ nextMove n r ⌝ }
-{
-    if n == FEWEST_PORTS {
-        return closing(FEWEST_PORTS);
-    }
-    if r == 0 {
-        return Move::One(Order::Turn(Jack(1), Jack(2), Jack(3)));
-    }
-    closing(3)
-}
-
-// The move from the pattern of rank r to the next, round the circuit: of a shorter list or of the tables.
-pub fn next_move(n: u8, r: u64) -> Move
-    requires { ⌜ (2 ≤ n) × (n ≤ mostPorts) × (r < count n) ⌝ }
-    ensures { λ m. ⌜ moveOf m ≡ nextMove n r ⌝ }
-{
-    if n < FEWEST_IN_TABLES {
-        return least_move(n, r);
-    }
-    let w = onward(n, r);
-    let back = w.back;
-    let passage = w.passage;
-    match passage {
-        Passage::ByA(s) => inverse_if(back, next_move(n - 1, s)),
-        Passage::ByTable(row) => inverse_if(back, row_move(n, row)),
-        Passage::ByB(i, s) => inverse_if(back, inverse_of(raised_by(i, next_move(n - 2, s)))),
-    }
-}
-
-// The rank before r round the circuit.
-fn rank_before(n: u8, r: u64) -> u64
-    requires { ⌜ (2 ≤ n) × (n ≤ mostPorts) × (r < count n) ⌝ }
-    ensures { λ q. ⌜ q ≡ previousRank n r ⌝ }
-{
-    if r == 0 {
-        return count_of(n) - 1;
-    }
-    r - 1
-}
-
-// The move from the pattern of rank r to the previous, round the circuit.
-pub fn previous_move(n: u8, r: u64) -> Move
-    requires { ⌜ (2 ≤ n) × (n ≤ mostPorts) × (r < count n) ⌝ }
-    ensures { λ m. ⌜ moveOf m ≡ previousMove n r ⌝ }
-{
-    inverse_of(next_move(n, rank_before(n, r)))
-}
-
-// The move from the pattern of rank r to the one beside it, the next or, backward, the previous.
-pub fn move_beside(n: u8, back: bool, r: u64) -> Move
-    requires { ⌜ (2 ≤ n) × (n ≤ mostPorts) × (r < count n) ⌝ }
-    ensures { λ m. ⌜ moveOf m ≡ moveBeside n back r ⌝ }
-{
-    if back {
-        previous_move(n, r)
-    } else {
-        next_move(n, r)
-    }
+    let mut copy = [0u8; LONGEST];
+    let mut inverse = [0u8; LONGEST];
+    // it is a pattern, so the pass says yes
+    invert(p, &mut copy, &mut inverse);
+    move_beside(&mut copy, &mut inverse, p.len() as u8, back)
 }

@@ -1,87 +1,110 @@
-// Which move leads on from a place in the list, by numbers alone.
-use pattern_steps::counts::block_size;
-use pattern_steps::counts::count_of;
+// The move beside a pattern, read off its course: the lowest open level gives a row of the tables, and each step by B above it raises the move.
+use crate::types::Open;
+use pattern_joins::changes::inverse_of;
+use pattern_joins::changes::raised_by;
+use pattern_joins::tables::closing;
+use pattern_joins::tables::hop;
+use pattern_joins::tables::join;
 use pattern_steps::numbers::is_odd;
-ghost use Prim.Native.Nat.{suc, _+_, _-_, _/_, _%_, _≤_, _<_};
+use words::Jack;
+use words::Move;
+use words::Order;
+use words::limits::LONGEST;
+ghost use mathlib.Core.Path.{_≡_};
+ghost use mathlib.Core.Bool.{Bool, true, false, cond};
+ghost use mathlib.Core.Option.{some};
+ghost use Prim.Native.Nat.{_-_, _≤_};
+ghost use lib.ListN.{length};
 ghost use Rattle.listing.specs.Numbers.{Among};
-ghost use Rattle.listing.specs.Count.{count};
-ghost use Rattle.listing.specs.Rank.{perBlock};
 ghost use Rattle.listing.specs.Limits.{mostPorts};
-ghost use Rattle.pattern_moves.specs.Lead.{Inside, LeadsOn};
+ghost use Rattle.listing.specs.Orders.{inverse};
+ghost use Rattle.listing_course.specs.Course.{Course};
+ghost use Rattle.listing_course.specs.Onward.{joinFrom, hopFrom, goesOn, courseMove};
+ghost use Rattle.listing_course.specs.Seeking.{letterIf, rowAt, Opens, Sought, Lifted};
+ghost use Rattle.words.specs.Meaning.{moveOf};
 
-// A row of the tables: the join inside block i, the hop after block i, the closing step.
-pub enum Row {
-    Join(u8),
-    Hop(u8),
-    Closing,
-}
-
-// Where a move comes from: the list for n - 1, at a rank there; the tables; or the list for n - 2, at a rank there, among the jacks without i and backward.
-pub enum Passage {
-    ByA(u64),
-    ByTable(Row),
-    ByB(u8, u64),
-}
-
-// Where a move comes from, and whether it is turned round.
-pub struct Lead {
-    pub passage: Passage,
-    pub back: bool,
-}
-
-// Inside block i, the block read as an odd one: from place u to the next.
-fn inside_step(n: u8, i: u8, u: u64) -> Passage
-    requires { ⌜ (4 ≤ n) × (n ≤ mostPorts) × Among (n - 1) i × (u + 1 < perBlock n) ⌝ }
-    ensures { λ s. ⌜ Inside n i u s ⌝ }
+// A move, turned round where that is said.
+fn inverse_if(back: bool, m: Move) -> Move
+    ensures { λ r. ⌜ moveOf r ≡ cond back (inverse (moveOf m)) (moveOf m) ⌝ }
 {
-    let by_a = count_of(n - 1);
-    let next = u + 1;
-    if next < by_a {
-        return Passage::ByA(u);
-    }
-    if next == by_a {
-        return Passage::ByTable(Row::Join(i));
-    }
-    Passage::ByB(i, block_size(n) - 1 - next)
+    if back { inverse_of(m) } else { m }
 }
 
-// From place s of block i: inside the block, an even block being an odd one read backwards, or from its end.
-fn block_step(n: u8, i: u8, s: u64) -> Lead
-    requires { ⌜ (4 ≤ n) × (n ≤ mostPorts) × Among (n - 1) i × (s < perBlock n) ⌝ }
-    ensures { λ w. ⌜ LeadsOn n i s w ⌝ }
+// From the one part of block i to the other, by A or, where the step skips a level, by B; with 3 ports, where none does, from the one block to the other.
+fn join_from(skips: bool, n: u8, i: u8) -> Move
+    requires { ⌜ (3 ≤ n) × (n ≤ mostPorts) × Among (n - 1) i × (skips ≡ true → 4 ≤ n) ⌝ }
+    ensures { λ r. ⌜ moveOf r ≡ joinFrom (letterIf skips) n i ⌝ }
 {
-    let size = block_size(n);
-    let next = s + 1;
-    if next < size {
-        if is_odd(i) {
-            return Lead {
-                passage: inside_step(n, i, s),
-                back: false,
-            };
+    if n == 3 {
+        if i == 1 {
+            return Move::One(Order::Turn(Jack(1), Jack(2), Jack(3)));
         }
-        return Lead {
-            passage: inside_step(n, i, size - 1 - next),
-            back: true,
-        };
+        return Move::One(Order::Turn(Jack(1), Jack(3), Jack(2)));
     }
-    if i + 1 == n {
-        return Lead {
-            passage: Passage::ByTable(Row::Closing),
-            back: false,
-        };
-    }
-    Lead {
-        passage: Passage::ByTable(Row::Hop(i)),
-        back: false,
+    inverse_if(skips, join(n, i))
+}
+
+// From block i to the next, or back to the one before it.
+fn hop_from(forward: bool, n: u8, i: u8) -> Move
+    requires { ⌜ (4 ≤ n) × (n ≤ mostPorts) × (forward ≡ true → Among (n - 2) i) × (forward ≡ false → Among (n - 2) (i - 1)) ⌝ }
+    ensures { λ r. ⌜ moveOf r ≡ hopFrom forward n i ⌝ }
+{
+    if forward {
+        hop(n, i)
+    } else {
+        inverse_of(hop(n, i - 1))
     }
 }
 
-// From the pattern of rank r, for 4 ports or more: r / size whole blocks come before its block.
-pub fn onward(n: u8, r: u64) -> Lead
-    requires { ⌜ (4 ≤ n) × (n ≤ mostPorts) × (r < count n) ⌝ }
-    ensures { λ w. ⌜ LeadsOn n (suc (r / perBlock n)) (r % perBlock n) w ⌝ }
+// The row of an open level: inside its block where the shorter list is read forward, else from its block to another.
+fn row_of(levels: &[u8; LONGEST], o: Open) -> Move
+    requires { ⌜ (length (now levels) ≡ mostPorts) × (o .ports ≤ mostPorts) × ((bottom : Bool) × Opens (now levels) bottom (o .ports) (o .inner)) ⌝ }
+    ensures { λ r. ⌜ moveOf r ≡ rowAt (now (levels .entry)) (o .ports) (o .inner) ⌝ }
 {
-    let size = block_size(n);
-    let i = (r / size + 1) as u8;
-    block_step(n, i, r % size)
+    let n = o.ports;
+    let i = levels[(n - 1) as usize];
+    let skips = levels[(n - 2) as usize] == 0;
+    if o.inner {
+        return join_from(skips, n, i);
+    }
+    // the shorter list is read backward: then the list is read forward by B in an odd block, and by A in an even one
+    let forward = is_odd(i) == skips;
+    hop_from(forward, n, i)
+}
+
+// A move of the list for fewer ports on the jacks of the list for n: raised by each step by B of the course above, over a level that is skipped.
+fn lifted(levels: &[u8; LONGEST], n: u8, from: u8, first: Move) -> Move
+    requires long { ⌜ length (now levels) ≡ mostPorts ⌝ }
+    requires ports { ⌜ (2 ≤ from) × (from ≤ n) × (n ≤ mostPorts) ⌝ }
+    requires course { ⌜ Course (now levels) n × Course (now levels) from ⌝ }
+    requires goes { ⌜ ((bottom : Bool) × (goesOn (now levels) bottom from ≡ some (moveOf first))) ⌝ }
+    ensures { λ r. ⌜ Lifted (now (levels .entry)) from (moveOf first) n (moveOf r) ⌝ }
+{
+    let mut v = first;
+    let mut m = from;
+    while m < n {
+        let at = m as usize;
+        if levels[at] == 0 {
+            let i = levels[at + 1];
+            v = raised_by(i, v);
+            m += 2;
+        } else {
+            m += 1;
+        }
+    }
+    v
+}
+
+// The move from the pattern of a course to the one beside it, the next or, backward, the previous: where no level is open, the closing step.
+pub fn move_on(levels: &[u8; LONGEST], n: u8, back: bool, o: Open) -> Move
+    requires long { ⌜ length (now levels) ≡ mostPorts ⌝ }
+    requires ports { ⌜ (2 ≤ n) × (n ≤ mostPorts) ⌝ }
+    requires course { ⌜ Course (now levels) n ⌝ }
+    requires sought { ⌜ Sought (now levels) n back (o .ports) (o .inner) ⌝ }
+    ensures { λ r. ⌜ moveOf r ≡ courseMove (now (levels .entry)) n back ⌝ }
+{
+    if o.ports == 0 {
+        return inverse_if(back, closing(n));
+    }
+    lifted(levels, n, o.ports, row_of(levels, o))
 }

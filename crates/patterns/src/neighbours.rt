@@ -3,7 +3,6 @@ use crate::answers::Moved;
 use pattern_carry::carry_move;
 use pattern_check::checking::check_inverse;
 use pattern_moves::neighbours::move_beside;
-use pattern_ranks::ranking::rank_of;
 use words::Outcome;
 use words::limits::LONGEST;
 ghost use mathlib.Core.Path.{_≡_};
@@ -17,12 +16,12 @@ fn go(p: &mut [u8], back: bool) -> Moved
     ensures answer { λ r. ⌜ movedTold r ≡ besideOf mostPorts back (now (p .entry)) ⌝ }
     ensures bytes { λ _. ⌜ now (p .exit) ≡ besideBytes mostPorts back (now (p .entry)) ⌝ }
 {
+    let mut copy = [0u8; LONGEST];
     let mut inverse = [0u8; LONGEST];
-    match check_inverse(p, &mut inverse) {
+    match check_inverse(p, &mut copy, &mut inverse) {
         Outcome::Refused(f) => Moved::Refused(f),
         Outcome::Accepted => {
-            let n = p.len() as u8;
-            let m = move_beside(n, back, rank_of(p, &mut inverse));
+            let m = move_beside(&mut copy, &mut inverse, p.len() as u8, back);
             carry_move(m, p);
             Moved::By(m)
         }

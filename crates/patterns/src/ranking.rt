@@ -14,14 +14,15 @@ ghost use Rattle.words.specs.Meaning.{numberedTold, outcomeTold};
 ghost use Rattle.listing.specs.Limits.{mostPorts};
 ghost use Rattle.patterns.specs.Calls.{rankOf, unrankOf, unrankBytes};
 
-// The rank of a pattern, by the inverse that the check leaves.
+// The rank of a pattern, by the working copy and the inverse that the check leaves.
 pub fn rank(p: &[u8]) -> Numbered
     ensures { λ r. ⌜ numberedTold r ≡ rankOf mostPorts (now (p .entry)) ⌝ }
 {
+    let mut copy = [0u8; LONGEST];
     let mut inverse = [0u8; LONGEST];
-    match check_inverse(p, &mut inverse) {
+    match check_inverse(p, &mut copy, &mut inverse) {
         Outcome::Refused(f) => Numbered::Refused(f),
-        Outcome::Accepted => Numbered::Is(rank_of(p, &mut inverse)),
+        Outcome::Accepted => Numbered::Is(rank_of(&mut copy, &mut inverse, p.len() as u8)),
     }
 }
 
