@@ -30,11 +30,11 @@ use Rattle.listing.proofs.Hops.{hopA-leads, hopB-leads, closing-leads}
 use Rattle.listing.proofs.Joins.{join-leads}
 
 -- the rank after r, where r is not the last, and where it is
-next-on : (n r : ℕ) → suc r ≢ count n → nextRank n r ≡ suc r
+pub next-on : (n r : ℕ) → suc r ≢ count n → nextRank n r ≡ suc r
 unfolding nextRank
 next-on n r d = is-other (suc r) (count n) 0 (suc r) d
 
-next-round : (n r : ℕ) → suc r ≡ count n → nextRank n r ≡ 0
+pub next-round : (n r : ℕ) → suc r ≡ count n → nextRank n r ≡ 0
 unfolding nextRank
 next-round n r e = is-same (suc r) (count n) 0 (suc r) e
 
@@ -186,7 +186,7 @@ onward-2 r h =
     let e : suc r ≡ count 2 = omega (arith, count-2) in
     rw (next-round 2 r e) (rw (at-last 0 r e, at-home 0) (closing-leads 0))
 
-turn-3 : Leads 3 (one (turn 1 2 3)) (at 3 0) (at 3 1)
+pub turn-3 : Leads 3 (one (turn 1 2 3)) (at 3 0) (at 3 1)
 unfolding at listing blocks block joined stepA stepB odd is trade raise lower tabulate source carry carryAll
 turn-3 = record { long = refl; form = omega arith; makes = refl }
 
@@ -214,11 +214,11 @@ next-leads (suc (suc x)) = onward x (next-leads (suc x)) (next-leads x)
 -- ---- backward
 
 -- the rank before r: before rank 0 comes the last
-previous-back : (n r : ℕ) → previousRank n (suc r) ≡ r
+pub previous-back : (n r : ℕ) → previousRank n (suc r) ≡ r
 unfolding previousRank
 previous-back n r = is-other (suc r) 0 (before (count n)) r (omega arith)
 
-previous-round : (n : ℕ) → previousRank n 0 ≡ before (count n)
+pub previous-round : (n : ℕ) → previousRank n 0 ≡ before (count n)
 unfolding previousRank
 previous-round n = is-same 0 0 (before (count n)) 0 refl
 

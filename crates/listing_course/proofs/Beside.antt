@@ -1,7 +1,7 @@
 -- The move that a course gives leads one place on in the list, and so it is the move beside its pattern. Where the shorter list ends, the part of the block
 -- that it makes is over: the row of the level leads to the first pattern of the part that comes next.
 -- Assumes nothing.
-use mathlib.Core.Path.{_≡_, refl, sym, ap, _∙_}
+use mathlib.Core.Path.{_≡_, refl, sym, ap, _∙_, subst}
 use mathlib.Core.Logic.{_≢_}
 use mathlib.Core.Bool.{Bool, true, false, not, cond}
 use mathlib.Core.List.{List}
@@ -16,10 +16,10 @@ use Rattle.listing.specs.Steps.{Letter, byA, byB, shorter, step, stepA, stepB, 
 use Rattle.listing.specs.Listing.{joined, block, blocks, listing, at}
 use Rattle.listing.specs.Rank.{fromEnd, perBlock, turned, place, rank}
 use Rattle.listing.specs.Reading.{other, comesFirst, passed}
-use Rattle.listing.specs.Orders.{Move, one, turn, source, carry, carryAll, Leads, InForm, inverse}
+use Rattle.listing.specs.Orders.{Move, Leads, InForm, inverse}
 use Rattle.listing.specs.Joins.{hop}
-use Rattle.listing.specs.Neighbours.{nextRank, previousRank, rankBeside, moveBeside}
-use Rattle.listing.proofs.Numbers.{either, same?, suc-before, is-same, is-other, from-two}
+use Rattle.listing.specs.Neighbours.{rankBeside, moveBeside}
+use Rattle.listing.proofs.Numbers.{either, same?, suc-before, from-two}
 use Rattle.listing.proofs.Counts.{count-2, count-pos, count-blocks}
 use Rattle.listing.proofs.Places.{turned-twice, turned-below}
 use Rattle.listing.proofs.Shorter.{step-derangement}
@@ -31,10 +31,10 @@ use Rattle.listing.proofs.Lifting.{leads-A, leads-B}
 use Rattle.listing.proofs.Rows.{hop-odd, hop-even}
 use Rattle.listing.proofs.Hops.{hopA-leads, hopB-leads, closing-leads}
 use Rattle.listing.proofs.Joins.{join-leads}
-use Rattle.listing.proofs.Neighbours.{only-beside}
-use Rattle.listing_course.specs.Course.{built, Course}
+use Rattle.listing.proofs.Neighbours.{next-on, next-round, previous-back, previous-round, turn-3, only-beside}
+use Rattle.listing_course.specs.Course.{built, Course, CourseOf}
 use Rattle.listing_course.specs.Onward.{readAt, liftedBy, joinFrom, hopFrom, onLevel, goesOn, orClosing, bottomRead, courseMove, Next, On}
-use Rattle.listing_course.proofs.Courses.{course-front, built-pattern, up-A, up-B}
+use Rattle.listing_course.proofs.Courses.{course-front, built-pattern, up-A, up-B, has-course}
 use Rattle.listing_course.proofs.Onward.{comes-twice, comes-other, comes-next, comes-back, read-A, read-B, read-top, goes-two, goes-A, goes-B}
 
 -- ---- what is passed over before a part, read f
@@ -192,10 +192,6 @@ module _ (x : ℕ) where
 -- ---- the whole course
 
 -- with 3 ports: 231 and 312, from the one pattern of 2 ports
-turn-3 : Leads 3 (one (turn 1 2 3)) (stepA 3 1 (at 2 0)) (stepA 3 2 (at 2 0))
-unfolding at listing blocks block joined stepA stepB odd is trade raise lower tabulate source carry carryAll
-turn-3 = record { long = refl; form = omega arith; makes = refl }
-
 pattern-3 : (i : ℕ) → Among 2 i → Derangement 3 (stepA 3 i (at 2 0))
 pattern-3 i fits = step-derangement byA 1 i (at 2 0) fits (at-derangement 2 0 (count-pos 0))
 
@@ -246,20 +242,18 @@ goes-form c b n v h C e = let N : Next (readAt c b n) n (built c n) v = rw e at 
 
 -- the rank beside r is the one that stands one place on
 rank-on : (back : Bool) (n r s : ℕ) → r < count n → s < count n → turned (not back) (count n) s ≡ suc (turned (not back) (count n) r) → rankBeside n back r ≡ s
-unfolding nextRank previousRank
-rank-on false n r s h k e = is-other (suc r) (count n) 0 (suc r) (omega arith) ∙ sym e
+rank-on false n r s h k e = next-on n r (omega arith) ∙ sym e
 rank-on true n zero s h k e = absurd (omega arith)
-rank-on true n (suc r) s h k e = is-other (suc r) 0 (before (count n)) r (omega arith) ∙ omega arith
+rank-on true n (suc r) s h k e = previous-back n r ∙ omega arith
 
 -- from the end of the list the closing step leads to the rank beside, at the other end
 closes : (back : Bool) (m r : ℕ) → r < count (suc (suc m)) → suc (turned (not back) (count (suc (suc m))) r) ≡ count (suc (suc m))
     → Leads (suc (suc m)) (orClosing back (suc (suc m)) none) (at (suc (suc m)) r) (at (suc (suc m)) (rankBeside (suc (suc m)) back r))
-unfolding nextRank previousRank
-closes false m r h e = let n = suc (suc m) in rw (is-same (suc r) (count n) 0 (suc r) e, at-last m r e, at-home m) (closing-leads m)
+closes false m r h e = rw (next-round (suc (suc m)) r e, at-last m r e, at-home m) (closing-leads m)
 closes true m r h e =
     let end = before (count (suc (suc m))) in
     let first : r ≡ 0 = omega arith in
-    rw (first, is-same 0 0 end 0 refl, at-home m, at-last m end (suc-before (count (suc (suc m))) (count-pos m))) (leads-back (closing-leads m))
+    rw (first, previous-round (suc (suc m)), at-home m, at-last m end (suc-before (count (suc (suc m))) (count-pos m))) (leads-back (closing-leads m))
 
 -- a move that leads one place on, or the closing step where the list ends, is the move beside
 is-beside : (back : Bool) (m : ℕ) (p : List ℕ) (o : Option Move) → Derangement (suc (suc m)) p → On (not back) (suc (suc m)) p o
@@ -277,12 +271,18 @@ is-beside back m p none D e =
     only-beside m back r (orClosing back n none) h (closes back m r h e)
 
 -- the move beside a pattern, the next or the previous, is read off its course
-pub course-beside : (c : List ℕ) (n : ℕ) (back : Bool) → 2 ≤ n → Course c n → courseMove c n back ≡ moveBeside n back (rank n (built c n))
+pub course-beside : (c : List ℕ) (n : ℕ) (p : List ℕ) (back : Bool) → 2 ≤ n → CourseOf c n p → courseMove c n back ≡ moveBeside n back (rank n p)
 unfolding courseMove
-course-beside c n back =
-    from-two (λ n. Course c n → courseMove c n back ≡ moveBeside n back (rank n (built c n)))
+course-beside c n p back =
+    from-two (λ n. CourseOf c n p → courseMove c n back ≡ moveBeside n back (rank n p))
     (λ m C.
     let n = suc (suc m) in
     let b = bottomRead c n (not back) in
-    is-beside back m (built c n) (goesOn c b n) (built-pattern c n C) (rw (read-top c n (not back)) at (goes-on c b n (omega arith) C)))
+    let on = rw (read-top c n (not back), C .makes) at (goes-on c b n (omega arith) (C .course)) in
+    is-beside back m p (goesOn c b n) (subst (Derangement n) (C .makes) (built-pattern c n (C .course))) on)
     n
+
+-- so of every pattern
+pub beside-course : (n : ℕ) (p : List ℕ) (back : Bool) → 2 ≤ n → Derangement n p
+    → (c : List ℕ) × CourseOf c n p × (courseMove c n back ≡ moveBeside n back (rank n p))
+beside-course n p back two D = let c = has-course n p D in (c .0, c .1, course-beside (c .0) n p back two (c .1))

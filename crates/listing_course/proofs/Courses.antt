@@ -3,17 +3,18 @@
 -- Assumes nothing.
 use mathlib.Core.Path.{_≡_, refl, sym, ap, _∙_}
 use mathlib.Core.Logic.{_≢_}
-use mathlib.Core.List.{List, []}
+use mathlib.Core.List.{List, [], _∷_}
 use Prim.Native.Nat.{ℕ, zero, suc, _≤_, _<_}
 use native.Mathlib.Omega.{arith}
-use lib.ListN.{length, set, length-set}
+use lib.ListN.{length, set, replicate, length-set, length-replicate}
 use borrow.Author.Tests.{eq-eqb, ne-eqb}
 use Rattle.listing.specs.Numbers.{Among}
 use Rattle.listing.specs.Pattern.{entry, Derangement}
 use Rattle.listing.specs.Steps.{Letter, byA, byB, shorter, step, stepA, stepB}
 use Rattle.listing.proofs.Numbers.{either, same?}
 use Rattle.listing.proofs.Panels.{entry-same, entry-other}
-use Rattle.listing.proofs.Shorter.{shorter-first, step-derangement, made-once}
+use Rattle.listing.proofs.Shorter.{shorter-first, step-derangement, made, made-once}
+use Rattle.listing.proofs.Ranks.{not-one}
 use Rattle.listing_course.specs.Course.{built, Course, CourseOf, Traced}
 
 -- ---- a course and its fronts
@@ -202,3 +203,28 @@ module _ {n m i : ℕ} {p u t : List ℕ} (c : List ℕ) (T : Traced c n p (suc 
 pub traced-end : {n m : ℕ} {p t : List ℕ} (c : List ℕ) → Traced c n p m t → m ≡ 0 → t ≡ [] → CourseOf c n p
 unfolding built
 traced-end c T e z = T .whole c (rw (e, z) (record { course = course-none c; makes = refl })) (λ k h l. refl)
+
+-- so every pattern has a course: down from it, each level by the step that made the pattern there
+module _ (n : ℕ) (p : List ℕ) where
+  -- one level down
+  step-down : (m : ℕ) (w : Letter) (i : ℕ) (u t c : List ℕ) → Traced c n p (suc (suc m)) t → length c ≡ n → Among (suc m) i → step w (suc (suc m)) i u ≡ t
+      → (d : List ℕ) × Traced d n p (shorter w (suc (suc m))) u × (length d ≡ n)
+  step-down m byA i u t c T l fits e = (set c (suc m) i, traced-A c T (omega arith) fits e, simp length-set l)
+  step-down m byB i u t c T l fits e = (set (set c (suc m) i) m 0, traced-B c T (omega arith) fits e, simp length-set l)
+
+  no-jacks : (t : List ℕ) → length t ≡ 0 → t ≡ []
+  no-jacks [] e = refl
+  no-jacks (x ∷ t) e = absurd (omega arith)
+
+  course-down : (m : ℕ) (t : List ℕ) → Derangement m t → (c : List ℕ) → Traced c n p m t → length c ≡ n → (d : List ℕ) × CourseOf d n p
+  course-down =
+      shorter-first (λ m. (t : List ℕ) → Derangement m t → (c : List ℕ) → Traced c n p m t → length c ≡ n → (d : List ℕ) × CourseOf d n p)
+      (λ t D c T l. (c, traced-end c T refl (no-jacks t (D .permutation .long))))
+      (λ t D. absurd (not-one t D))
+      (λ m shorter-ones t D c T l.
+      let x = made m t D in
+      let s = step-down m (x .by) (x .i) (x .from) t c T l (x .fits) (sym (x .is)) in
+      shorter-ones (x .by) (x .from) (x .pattern) (s .0) (s .1) (s .2))
+
+  pub has-course : Derangement n p → (c : List ℕ) × CourseOf c n p
+  has-course D = let c : List ℕ = replicate n 0 in course-down n p D c (traced-start c) (length-replicate n 0)

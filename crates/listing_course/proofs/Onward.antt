@@ -26,10 +26,14 @@ two-tests P tt tf ft ff true false = tf
 two-tests P tt tf ft ff false true = ft
 two-tests P tt tf ft ff false false = ff
 
--- to agree with b is to be so where b is, and not so where b is not; twice leads back; with the contrary, it is the contrary
-beq-cond : (a b : Bool) → Bool·beq a b ≡ cond b a (not a)
+-- to agree with b is to be so where b is, and not so where b is not; not to agree is the other way round
+pub beq-cond : (a b : Bool) → Bool·beq a b ≡ cond b a (not a)
 beq-cond = two-tests (λ a b. Bool·beq a b ≡ cond b a (not a)) refl refl refl refl
 
+pub beq-other : (a b : Bool) → not (Bool·beq a b) ≡ cond b (not a) a
+beq-other = two-tests (λ a b. not (Bool·beq a b) ≡ cond b (not a) a) refl refl refl refl
+
+-- twice leads back, and with the contrary it is the contrary
 beq-twice : (a b : Bool) → Bool·beq a (Bool·beq a b) ≡ b
 beq-twice = two-tests (λ a b. Bool·beq a (Bool·beq a b) ≡ b) refl refl refl refl
 

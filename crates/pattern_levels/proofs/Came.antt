@@ -2,7 +2,6 @@
 -- Assumes nothing.
 use mathlib.Core.Path.{_≡_, refl}
 use mathlib.Core.Logic.{_≢_}
-use mathlib.Core.Bool.{Bool, true, false, not, cond, Bool·beq}
 use mathlib.Core.List.{List}
 use Prim.Native.Nat.{ℕ, zero, suc, _-_, _≤_, _<_}
 use native.Mathlib.Omega.{arith}
@@ -36,10 +35,3 @@ shorter-fewer w zero h = absurd (omega arith)
 shorter-fewer w (suc zero) h = absurd (omega arith)
 shorter-fewer byA (suc (suc m)) h = omega arith
 shorter-fewer byB (suc (suc m)) h = omega arith
-
--- by A is the first part where i is odd and the list is read forward, or neither; by B where one of the two
-pub sides : (b forward : Bool) → (Bool·beq b forward ≡ cond forward b (not b)) × (not (Bool·beq b forward) ≡ cond forward (not b) b)
-sides true true = (refl, refl)
-sides true false = (refl, refl)
-sides false true = (refl, refl)
-sides false false = (refl, refl)

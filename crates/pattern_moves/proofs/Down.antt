@@ -21,7 +21,7 @@ use Rattle.listing_course.proofs.Courses.{traced-start}
 use Rattle.listing_course.proofs.Seeking.{seeking-start, seeking-level, traced-level, course-found}
 use Rattle.pattern_levels.specs.declared.types.Came.{Came}
 use Rattle.pattern_levels.specs.Levels.{letterOf, endOf, Peeled}
-use Rattle.pattern_levels.proofs.Came.{as-came, two-jacks, end-among, shorter-fewer}
+use Rattle.pattern_levels.proofs.Came.{as-came, two-jacks, end-among}
 use Rattle.pattern_moves.specs.Lowest.{openBy}
 use Rattle.pattern_moves.specs.declared.types.Open.{Open}
 

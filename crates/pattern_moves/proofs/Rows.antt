@@ -20,7 +20,7 @@ use Rattle.listing.proofs.Panels.{entry-below}
 use Rattle.listing_course.specs.Course.{Course}
 use Rattle.listing_course.specs.Onward.{joinFrom, hopFrom, isOpen}
 use Rattle.listing_course.specs.Seeking.{letterIf, letterAt, readOver, rowAt, Opens}
-use Rattle.listing_course.proofs.Onward.{open-forward, open-backward, three-shut}
+use Rattle.listing_course.proofs.Onward.{beq-cond, open-forward, open-backward, three-shut}
 
 -- ---- from the one part of a block to the other
 
@@ -49,17 +49,10 @@ hop-back forward n i e = rw (e, less-one i) refl
 
 -- ---- a level
 
--- to agree with b is to be so where b is, and not so where b is not
-agrees : (o b : Bool) → Bool·beq o b ≡ cond b o (not o)
-agrees true true = refl
-agrees true false = refl
-agrees false true = refl
-agrees false false = refl
-
 -- where the shorter list is read backward, the list is read forward by B in an odd block, and by A in an even one
 read-over : (b : Bool) (i : ℕ) → Bool·beq (odd i) b ≡ comesFirst false (letterIf b) i
-read-over true i = agrees (odd i) true
-read-over false i = agrees (odd i) false
+read-over true i = beq-cond (odd i) true
+read-over false i = beq-cond (odd i) false
 
 -- the number of the level below, where the code has it
 level-below : (c : List ℕ) (k : ℕ) → 2 ≤ k → getD c (k - 2) 0 ≡ entry c (before k)

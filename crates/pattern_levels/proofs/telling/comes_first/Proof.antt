@@ -2,19 +2,19 @@
 -- Assumes nothing.
 use borrow.Author.Needs.{needs}
 use Rattle.listing.specs.Numbers.{odd}
-use Rattle.pattern_levels.proofs.Came.{sides}
+use Rattle.listing_course.proofs.Onward.{beq-cond, beq-other}
 use Rattle.pattern_levels.proofs.telling.comes_first.Statement.{statement}
 use Rattle.pattern_levels.proofs.telling.comes_first.Tie as tie
 
 returns : tie.Need-returns
 returns c =
     let i = c .before .before .c .given in
-    rw (i .1, c .is-odd .ensures) (sides (odd (i .0 .0)) (c .before .before .before .before .args .forward) .0)
+    rw (i .1, c .is-odd .ensures) (beq-cond (odd (i .0 .0)) (c .before .before .before .before .args .forward))
 
 returns-2 : tie.Need-returns-2
 returns-2 c =
     let i = c .before .before .c2 .given in
-    rw (i .1, c .is-odd2 .ensures) (sides (odd (i .0 .0)) (c .before .before .before .before .args .forward) .1)
+    rw (i .1, c .is-odd2 .ensures) (beq-other (odd (i .0 .0)) (c .before .before .before .before .args .forward))
 
 pub comes-first-spec : {M : Type 1} → statement M
 comes-first-spec =
