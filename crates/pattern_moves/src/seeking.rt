@@ -11,6 +11,7 @@ ghost use mathlib.Core.Path.{_≡_};
 ghost use mathlib.Core.Bool.{cond};
 ghost use Prim.Native.Nat.{_≤_};
 ghost use lib.ListN.{length, take};
+ghost use Rattle.listing.specs.Numbers.{before};
 ghost use Rattle.listing.specs.Limits.{mostPorts};
 ghost use Rattle.listing.specs.Reading.{comesFirst};
 ghost use Rattle.listing_course.specs.Course.{CourseOf};
@@ -20,18 +21,21 @@ ghost use Rattle.listing_course.specs.Seeking.{Sought};
 ghost use Rattle.pattern_levels.specs.Levels.{letterOf, endOf};
 ghost use Rattle.pattern_moves.specs.Lowest.{openBy};
 
+// The block that comes last in the list for n ports, read forward or backward.
+fn last_block(forward: bool, n: u8) -> u8
+    requires { ⌜ 1 ≤ n ⌝ }
+    ensures { λ r. ⌜ r ≡ cond forward (before n) 1 ⌝ }
+{
+    if forward { n - 1 } else { 1 }
+}
+
 // Whether a level of n ports in block i goes on where the shorter list ends: from the first part of a block always, from the second but not past the last.
 fn is_open(inner: bool, forward: bool, n: u8, i: u8) -> bool
     requires { ⌜ 1 ≤ n ⌝ }
     ensures { λ r. ⌜ r ≡ isOpen inner forward n i ⌝ }
 {
-    if inner {
-        return true;
-    }
-    if forward {
-        return i != n - 1;
-    }
-    i != 1
+    let last = last_block(forward, n);
+    inner || i != last
 }
 
 // The lowest open level once the level of n ports is looked at too, whose list is read forward or backward: that level, if it is open.
