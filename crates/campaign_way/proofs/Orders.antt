@@ -11,17 +11,19 @@ use lib.ListN.{length, take, drop}
 use lib.Seq.{length-take-le, take-at}
 use borrow.Author.Tests.{ne-eqb}
 use Rattle.listing.specs.Numbers.{Among}
-use Rattle.listing.specs.Pattern.{entry, Permutation, Derangement}
+use Rattle.listing.specs.Pattern.{entry, Permutation}
 use Rattle.listing.specs.Orders.{Order, swap, carry, Move, orders, InForm}
 use Rattle.listing.specs.Count.{count}
 use Rattle.listing.specs.Listing.{at}
-use Rattle.listing.specs.Rank.{rank}
 use Rattle.listing.specs.Neighbours.{moveBeside}
 use Rattle.listing.specs.Limits.{mostPorts}
 use Rattle.listing.proofs.Numbers.{from-two}
 use Rattle.listing.proofs.Panels.{length-carry}
-use Rattle.listing.proofs.Ranks.{at-derangement, rank-at}
+use Rattle.listing.proofs.Ranks.{rank-at}
 use Rattle.listing.proofs.Neighbours.{beside-leads}
+use Rattle.listing_course.specs.Course.{CourseOf}
+use Rattle.listing_course.specs.Onward.{courseMove}
+use Rattle.listing_course.proofs.Beside.{course-beside}
 use Rattle.promise.specs.Tests.{same, isPermutation}
 use Rattle.promise.specs.Carriage.{holder, carriage}
 use Rattle.promise.specs.Plan.{Leg, stepped}
@@ -95,15 +97,10 @@ order-gone f o b e t = rw (e, t) refl
 pub beside-form : (n : ℕ) → 2 ≤ n → (back : Bool) (r : ℕ) → r < count n → InForm n (moveBeside n back r)
 beside-form n two back r h = from-two (λ n. r < count n → InForm n (moveBeside n back r)) (λ m l. beside-leads m back r l .form) n two h
 
--- a slice that has the pattern of a rank may be asked for its neighbours
-pub listed-asked : (n r : ℕ) (t : List ℕ) → 2 ≤ n → n ≤ mostPorts → r < count n → t ≡ at n r
-    → (2 ≤ length t) × (length t ≤ mostPorts) × Derangement (length t) t
-listed-asked n r t two most l e = let D = at-derangement n r l in rw (e, D .permutation .long) (two, most, D)
-
--- and the move beside it is that beside the rank
-pub listed-move : (n r : ℕ) (t : List ℕ) (back : Bool) (v : Move) → r < count n → t ≡ at n r → v ≡ moveBeside (length t) back (rank (length t) t)
+-- the move read off the course of a rank is the move beside the rank
+pub course-move : (n r : ℕ) (c : List ℕ) (back : Bool) (v : Move) → 2 ≤ n → r < count n → CourseOf c n (at n r) → v ≡ courseMove c n back
     → v ≡ moveBeside n back r
-listed-move n r t back v l e told = told ∙ rw (e, at-derangement n r l .permutation .long, rank-at n r l) refl
+course-move n r c back v two l C told = told ∙ course-beside c n (at n r) back two C ∙ ap (moveBeside n back) (rank-at n r l)
 
 -- ---- before a leg's first mark
 

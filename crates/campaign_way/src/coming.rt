@@ -7,7 +7,8 @@ use pattern_carry::panels::holder;
 use pattern_carry::panels::port_at;
 use pattern_check::checking::check_panel;
 use pattern_course::unranking::put_pattern;
-use pattern_moves::neighbours::move_from;
+use pattern_course::unranking::put_with_course;
+use pattern_moves::neighbours::move_along;
 use words::Jack;
 use words::Leg;
 use words::Move;
@@ -129,7 +130,6 @@ pub fn coming(n: u8, l: Leg, k: u64, q: [u8; LONGEST]) -> ToCome
     let r = rank_along(n, l.start, back, k - 1);
     let end = n as usize;
     let mut t = [0u8; LONGEST];
-    put_pattern(r, &mut t[..end]);
-    let m = move_from(&t[..end], back);
-    on_the_way(n, t, m, q)
+    let levels = put_with_course(r, &mut t[..end]);
+    on_the_way(n, t, move_along(&levels, n, back), q)
 }

@@ -27,15 +27,19 @@ course-front C h met = record { below = λ j b. C .below j (omega arith); apart 
 pub course-none : (c : List ℕ) → Course c 0
 course-none c = record { below = λ k h. absurd (omega arith); apart = λ k b h. absurd (omega arith); met = λ h. absurd (omega arith) }
 
+-- and none of one level: its number is below 1, and would have to be met
+pub no-course-1 : {c : List ℕ} → Course c 1 → ⊥
+no-course-1 C = omega (arith, C .below 1 (omega arith), C .met (omega arith))
+
 -- the number of the last level is 1 to n - 1
-last-fits : {c : List ℕ} {m : ℕ} → Course c (suc (suc m)) → Among (suc m) (entry c (suc (suc m)))
+pub last-fits : {c : List ℕ} {m : ℕ} → Course c (suc (suc m)) → Among (suc m) (entry c (suc (suc m)))
 last-fits {c = c} {m = m} C = omega (arith, C .below (suc (suc m)) (omega arith), C .met (omega arith))
 
 -- the front up to the level below, where that is met, and up to the one below it, where it is skipped
-met-front : {c : List ℕ} {m : ℕ} → Course c (suc (suc m)) → entry c (suc m) ≢ 0 → Course c (suc m)
+pub met-front : {c : List ℕ} {m : ℕ} → Course c (suc (suc m)) → entry c (suc m) ≢ 0 → Course c (suc m)
 met-front C d = course-front C (omega arith) (λ h. d)
 
-below-front : {c : List ℕ} {m : ℕ} → Course c (suc (suc m)) → entry c (suc m) ≡ 0 → Course c m
+pub below-front : {c : List ℕ} {m : ℕ} → Course c (suc (suc m)) → entry c (suc m) ≡ 0 → Course c m
 below-front {m = m} C e = course-front C (omega arith) (λ h z. C .apart m h (omega arith) z e)
 
 -- ---- the pattern
@@ -63,7 +67,7 @@ unfolding built
 built-pattern c =
     shorter-first (λ n. Course c n → Derangement n (built c n))
     (λ C. none-pattern)
-    (λ C. absurd (omega (arith, C .below 1 (omega arith), C .met (omega arith))))
+    (λ C. absurd (no-course-1 C))
     (λ m shorter-ones C.
     either (same? (entry c (suc m)) 0)
     (λ e. rw (built-B c m e) (step-derangement byB m (entry c (suc (suc m))) (built c m) (last-fits C) (shorter-ones byB (below-front C e))))
@@ -78,7 +82,7 @@ isB : Letter → ℕ
 isB byA = 0
 isB byB = 1
 
-two-letters : byB ≡ byA → ⊥
+pub two-letters : byB ≡ byA → ⊥
 unfolding isB
 two-letters e = let z : _≡_ {A = ℕ} 1 0 = ap isB e in omega arith
 
@@ -98,7 +102,7 @@ pub only-course : (c d : List ℕ) (n : ℕ) → Course c n → Course d n → b
 only-course c d =
     shorter-first (λ n. Course c n → Course d n → built c n ≡ built d n → (k : ℕ) → Among n k → entry c k ≡ entry d k)
     (λ C D e k h. absurd (omega arith))
-    (λ C D e k h. absurd (omega (arith, C .below 1 (omega arith), C .met (omega arith))))
+    (λ C D e k h. absurd (no-course-1 C))
     (λ m shorter-ones C D e k h.
     let n = suc (suc m) in
     either (same? (entry c (suc m)) 0)
@@ -134,6 +138,13 @@ up-B {c = c} {n = n} {m = m} C h e =
     let top : suc m ≢ n = λ k. C .met (omega arith) (ap (entry c) (sym k) ∙ e) in
     let D = course-front {k = suc (suc m)} C (omega arith) (λ l. C .apart (suc m) (omega arith) (omega arith) e) in
     (omega arith, D, last-fits D, built-B c m e)
+
+-- the shorter pattern has fewer ports
+pub shorter-fewer : (w : Letter) (n : ℕ) → 2 ≤ n → shorter w n < n
+shorter-fewer w zero h = absurd (omega arith)
+shorter-fewer w (suc zero) h = absurd (omega arith)
+shorter-fewer byA (suc (suc m)) h = omega arith
+shorter-fewer byB (suc (suc m)) h = omega arith
 
 -- ---- one level more on a course
 

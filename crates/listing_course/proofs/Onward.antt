@@ -1,5 +1,5 @@
--- Read off a course from the bottom up, as code does: which way the list of each level is read, what the move on from it is one level up, and which rows of
--- the tables an open level can ask for. That the move leads on is in Beside.
+-- A course level by level, from the bottom up: which way each list is read, what the move on is one level up, and which rows of the tables an open level can
+-- ask for. That the move leads on is in Beside; that it is found on the way down, in Seeking.
 -- Assumes nothing.
 use mathlib.Core.Path.{_≡_, refl, sym, ap, _∙_}
 use mathlib.Core.Logic.{_≢_}
@@ -83,7 +83,7 @@ read-B c b m h e =
     read-up c b (suc m) (omega arith) ∙ ap (Bool·beq (odd i)) below
     ∙ two-tests (λ g o. Bool·beq o (Bool·beq false g) ≡ cond g (not o) o) refl refl refl refl (readAt c b m) (odd i)
 
--- backward at the bottom is the other way at each level, so that it agrees with forward there, or not
+-- with the bottom read backward every list is read the other way
 read-not : (c : List ℕ) (n : ℕ) → readAt c false n ≡ not (readAt c true n)
 unfolding readAt
 read-not c zero = refl

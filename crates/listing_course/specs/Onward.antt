@@ -38,7 +38,7 @@ abbrev pub hopFrom : Bool → ℕ → ℕ → Move
 hopFrom forward n i = cond forward (hop n i) (inverse (hop n (before i)))
 
 -- whether a level goes on where the shorter list ends. The shorter list is read forward in the first part of a block, and from there the block goes on to its
--- second part; from the second part it goes on to another block, but not from the last, or backward not from the first
+-- second part, with 3 ports to the other block; from the second part it goes on to another block, but not from the last, or backward not from the first
 abbrev pub isOpen : Bool → Bool → ℕ → ℕ → Bool
 isOpen inner forward n i = cond inner true (not (eqb i (cond forward (before n) 1)))
 

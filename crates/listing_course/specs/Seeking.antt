@@ -15,7 +15,7 @@ use Rattle.listing.specs.Orders.{Move}
 use Rattle.listing_course.specs.Course.{Course, Agrees}
 use Rattle.listing_course.specs.Onward.{readAt, isOpen, row, goesOn}
 
--- B or A
+-- B if b, else A
 abbrev pub letterIf : Bool → Letter
 letterIf b = cond b byB byA
 
@@ -35,7 +35,7 @@ rowAt c k inner = row inner (readOver c k inner) (letterAt c k) k (entry c k)
 pub record Opens (c : List ℕ) (bottom : Bool) (k : ℕ) (inner : Bool) : Type 0 where
   pub three : 3 ≤ k
   pub course : Course c k
-  pub found : isOpen inner (readOver c k inner) k (entry c k) ≡ true
+  pub opened : isOpen inner (readOver c k inner) k (entry c k) ≡ true
   pub goes : goesOn c bottom k ≡ some (rowAt c k inner)
 
 -- where the list for n ports goes on: at level k, or at none, for which 0 stands
@@ -44,7 +44,7 @@ pub record Found (c : List ℕ) (bottom : Bool) (n k : ℕ) (inner : Bool) : Typ
   pub ends : k ≡ 0 → goesOn c bottom n ≡ none
   pub opens : k ≢ 0 → Opens c bottom k inner
 
--- the same, whichever way the list at the bottom is read so that the list for n is read forward, or backward
+-- the same, with the list at the bottom read so that the list for n is read forward or, back, backward
 abbrev pub Sought : List ℕ → ℕ → Bool → ℕ → Bool → Type 0
 Sought c n back k inner = (bottom : Bool) × (readAt c bottom n ≡ not back) × Found c bottom n k inner
 

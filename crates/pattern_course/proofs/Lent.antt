@@ -4,7 +4,7 @@ use mathlib.Core.Path.{_≡_, refl, ap, _∙_}
 use mathlib.Core.List.{List, _++_}
 use Prim.Native.Nat.{ℕ, zero, suc, _-_, _≤_, _<_}
 use native.Mathlib.Omega.{arith}
-use lib.ListN.{length, take, drop, replicate, length-replicate, length-append}
+use lib.ListN.{length, take, drop, replicate, length-replicate}
 use lib.Seq.{length-take-le, take-at}
 use Rattle.listing.specs.Count.{count}
 use Rattle.listing.specs.Listing.{at}
@@ -24,12 +24,6 @@ is-put n r t p h e = e ∙ ap (λ k. at k r) (length-take-le n t h)
 pub front-put : (n r : ℕ) (t p : List ℕ) → n ≤ length t → r < count n → p ≡ at (length (take n t)) r → take n (p ++ drop n t) ≡ at n r
 front-put n r t p h l e =
     ap (λ q. take n (q ++ drop n t)) (is-put n r t p h e) ∙ take-at (at n r) (drop n t) n (at-derangement n r l .permutation .long)
-
--- and the array has room for it
-pub front-room : (n r : ℕ) (t p : List ℕ) → n ≤ length t → r < count n → p ≡ at (length (take n t)) r → n ≤ length (p ++ drop n t)
-front-room n r t p h l e =
-    let long : length p ≡ n = ap length (is-put n r t p h e) ∙ at-derangement n r l .permutation .long in
-    omega (arith, length-append p (drop n t))
 
 -- what is left of an array that has z in every place
 alike-left : (n most z : ℕ) → drop n (replicate most z) ≡ replicate (most - n) z

@@ -79,10 +79,21 @@ fn put_course(levels: [u8; LONGEST], out: &mut [u8])
     }
 }
 
-// The pattern of a rank fills the lent slice, which has a byte for each port.
+// The pattern of a rank fills the lent slice, which has a byte for each port, and its course is the answer.
+pub fn put_with_course(rank: u64, out: &mut [u8]) -> [u8; LONGEST]
+    requires { ⌜ (length (now out) ≤ mostPorts) × (rank < count (length (now out))) ⌝ }
+    ensures pattern { λ _. ⌜ now (out .exit) ≡ at (length (now (out .entry))) rank ⌝ }
+    ensures course { λ r. ⌜ CourseOf r (length (now (out .entry))) (at (length (now (out .entry))) rank) ⌝ }
+{
+    let levels = course_of(out.len() as u8, rank);
+    put_course(levels, out);
+    levels
+}
+
+// The same where no course is wanted.
 pub fn put_pattern(rank: u64, out: &mut [u8])
     requires { ⌜ (length (now out) ≤ mostPorts) × (rank < count (length (now out))) ⌝ }
     ensures { λ _. ⌜ now (out .exit) ≡ at (length (now (out .entry))) rank ⌝ }
 {
-    put_course(course_of(out.len() as u8, rank), out);
+    put_with_course(rank, out);
 }

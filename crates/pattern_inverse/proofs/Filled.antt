@@ -128,10 +128,3 @@ module _ (p a b : List ℕ) (at : ℕ) (here : at < length p) where
       let o = F .only (getD p at 0) (λ z. d (entry-below b (getD p at 0) low ∙ z)) in
       let same = D .permutation .apart (entry b (getD p at 0)) (suc at) (omega arith) (omega arith) (o .1) in
       omega arith)
-
--- ---- of a list that is known to be a pattern
-
--- it is taken in, since the pass does not refuse it
-pub judged-pattern : {r : Bool} {p a b : List ℕ} → Judged r p a b → Derangement (length p) p → TakenIn p a b
-judged-pattern {r = true} J D = J .accepted refl
-judged-pattern {r = false} J D = absurd (J .refused refl D)

@@ -3,11 +3,11 @@
 use mathlib.Core.Path.{_≡_, refl}
 use mathlib.Core.Logic.{_≢_}
 use mathlib.Core.List.{List}
-use Prim.Native.Nat.{ℕ, zero, suc, _-_, _≤_, _<_}
+use Prim.Native.Nat.{ℕ, zero, suc, _-_, _≤_}
 use native.Mathlib.Omega.{arith}
 use Rattle.listing.specs.Numbers.{Among}
 use Rattle.listing.specs.Pattern.{entry, Derangement}
-use Rattle.listing.specs.Steps.{Letter, byA, byB, shorter, letter}
+use Rattle.listing.specs.Steps.{Letter, byA, byB, letter}
 use Rattle.listing.proofs.Counts.{two-ports}
 use Rattle.listing.proofs.Shorter.{end-fits}
 use Rattle.listing.proofs.Ranks.{rank-below}
@@ -28,10 +28,3 @@ pub end-among : {n : ℕ} {p : List ℕ} {c : Came} → 2 ≤ n → Derangement 
 end-among {n = zero} h D e = absurd (omega arith)
 end-among {n = suc zero} h D e = absurd (omega arith)
 end-among {n = suc (suc m)} {p = p} {c = c} h D e = rw (← as-came c (letter (suc (suc m)) p) (entry p (suc (suc m))) e .1) (omega (arith, end-fits m p D))
-
--- the shorter pattern has fewer ports
-pub shorter-fewer : (w : Letter) (n : ℕ) → 2 ≤ n → shorter w n < n
-shorter-fewer w zero h = absurd (omega arith)
-shorter-fewer w (suc zero) h = absurd (omega arith)
-shorter-fewer byA (suc (suc m)) h = omega arith
-shorter-fewer byB (suc (suc m)) h = omega arith

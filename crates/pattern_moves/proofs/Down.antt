@@ -1,4 +1,5 @@
--- The way down a pattern, level by level, in the numbers that the code has: the course is traced and the lowest open level is sought at once.
+-- The way down, level by level, in the numbers that the code has: of a pattern, whose course is traced and whose lowest open level is sought at once; and of a
+-- course that is there.
 -- Assumes nothing.
 use mathlib.Core.Path.{_≡_, refl, sym}
 use mathlib.Core.Logic.{_≢_}
@@ -14,13 +15,14 @@ use Rattle.listing.specs.Limits.{mostPorts}
 use Rattle.listing.specs.Reading.{comesFirst}
 use Rattle.listing.proofs.Numbers.{from-two}
 use Rattle.listing.proofs.Shorter.{letter-back}
-use Rattle.listing_course.specs.Course.{CourseOf, Traced}
+use Rattle.listing_course.specs.Course.{Course, CourseOf, Traced}
 use Rattle.listing_course.specs.InPlace.{WithInverse}
-use Rattle.listing_course.specs.Seeking.{Sought, Seeking}
+use Rattle.listing_course.specs.Seeking.{letterAt, Sought, Seeking}
 use Rattle.listing_course.proofs.Courses.{traced-start}
-use Rattle.listing_course.proofs.Seeking.{seeking-start, seeking-level, traced-level, course-found}
+use Rattle.listing_course.proofs.Seeking.{seeking-start, seeking-level, traced-level, seeking-down, course-found}
 use Rattle.pattern_levels.specs.declared.types.Came.{Came}
-use Rattle.pattern_levels.specs.Levels.{letterOf, endOf, Peeled}
+use Rattle.pattern_levels.specs.Levels.{cameOf, letterOf, endOf, Peeled}
+use Rattle.listing_course.proofs.Courses.{shorter-fewer}
 use Rattle.pattern_levels.proofs.Came.{as-came, two-jacks, end-among}
 use Rattle.pattern_moves.specs.Lowest.{openBy}
 use Rattle.pattern_moves.specs.declared.types.Open.{Open}
@@ -95,3 +97,34 @@ going-end {back = back} a b c G e =
     let S = rw e at (G .seeking) in
     let f = course-found c (omega (arith, G .long-course)) T D S in
     (simp length-set (G .long-course), f .0, f .1 back refl)
+
+-- ---- down a course that is there
+
+-- m levels of the course c of n are left; the list for m is read forward or backward; o is the lowest open level so far
+pub record Looking (n : ℕ) (back : Bool) (c : List ℕ) (forward : Bool) (m : ℕ) (o : Open) : Type 0 where
+  pub most : m ≤ n
+  pub two : 2 ≤ m
+  pub course : Course c m
+  pub seeking : Seeking c n (not back) m forward (o .ports) (o .inner)
+
+-- one level down, by the step s
+pub looking-down : {n : ℕ} {back forward : Bool} {o : Open} (c : List ℕ) (m : ℕ) (s : Came) (o′ : Open) → 2 < m → Looking n back c forward m o
+    → s ≡ cameOf (letterAt c m) (entry c m)
+    → o′ .ports ≡ cond (openBy forward m s) m (o .ports) → o′ .inner ≡ cond (openBy forward m s) (comesFirst forward (letterOf s) (endOf s)) (o .inner)
+    → Looking n back c (comesFirst forward (letterOf s) (endOf s)) (shorter (letterOf s) m) o′
+looking-down {n = n} {back = back} {forward = forward} {o = o} c m s o′ low L =
+    from-two
+    (λ m. 2 < m → Looking n back c forward m o → s ≡ cameOf (letterAt c m) (entry c m)
+    → o′ .ports ≡ cond (openBy forward m s) m (o .ports) → o′ .inner ≡ cond (openBy forward m s) (comesFirst forward (letterOf s) (endOf s)) (o .inner)
+    → Looking n back c (comesFirst forward (letterOf s) (endOf s)) (shorter (letterOf s) m) o′)
+    (λ k low L e ep ei.
+    let m = suc (suc k) in
+    let is = as-came s (letterAt c m) (entry c m) e in
+    let down = rw (is .0, is .1) at (seeking-down (L .most) low (L .course) (L .seeking)) in
+    record {
+      most = omega (arith, L .most, shorter-fewer (letterOf s) m (L .two));
+      two = down .two;
+      course = down .course;
+      seeking = rw (ep, ei) (down .seeking);
+    })
+    m (L .two) low L

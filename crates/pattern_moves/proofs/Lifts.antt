@@ -1,4 +1,4 @@
--- A move of a shorter list, lifted up a course as the code lifts it: each level above, and the move beside that it is at the top.
+-- A move of a shorter list, lifted up a course as the code lifts it: each level above, and that at the top it is the move beside the pattern.
 -- Assumes nothing.
 use mathlib.Core.Path.{_≡_, refl, sym, ap, _∙_}
 use mathlib.Core.Logic.{_≢_}

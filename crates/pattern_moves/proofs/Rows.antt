@@ -2,7 +2,7 @@
 -- Assumes nothing.
 use mathlib.Core.Path.{_≡_, refl, sym, ap, _∙_}
 use mathlib.Core.Logic.{_≢_}
-use mathlib.Core.Bool.{Bool, true, false, not, cond, Bool·beq, true≢false}
+use mathlib.Core.Bool.{Bool, true, false, cond, Bool·beq, true≢false}
 use mathlib.Core.List.{List}
 use Prim.Native.Nat.{ℕ, suc, _-_, _≤_}
 use native.Mathlib.Omega.{arith}
@@ -17,6 +17,8 @@ use Rattle.listing.specs.Orders.{Move, one, turn, inverse}
 use Rattle.listing.specs.Joins.{join, hop}
 use Rattle.listing.proofs.Numbers.{either, same?, less-one, from-two}
 use Rattle.listing.proofs.Panels.{entry-below}
+use Rattle.pattern_levels.specs.declared.types.Came.the-variants.{ByA, ByB}
+use Rattle.pattern_levels.specs.Levels.{cameOf}
 use Rattle.listing_course.specs.Course.{Course}
 use Rattle.listing_course.specs.Onward.{joinFrom, hopFrom, isOpen}
 use Rattle.listing_course.specs.Seeking.{letterIf, letterAt, readOver, rowAt, Opens}
@@ -57,6 +59,13 @@ read-over false i = beq-cond (odd i) false
 -- the number of the level below, where the code has it
 level-below : (c : List ℕ) (k : ℕ) → 2 ≤ k → getD c (k - 2) 0 ≡ entry c (before k)
 level-below c = from-two (λ k. getD c (k - 2) 0 ≡ entry c (before k)) (λ m. let e : suc (suc m) - 2 ≡ m = omega arith in rw e)
+
+-- the step of a level: by B if the level below is skipped, by A if it is met
+pub step-skips : (c : List ℕ) (k : ℕ) → 2 ≤ k → getD c (k - 2) 0 ≡ 0 → ByB (getD c (k - 1) 0) ≡ cameOf (letterAt c k) (entry c k)
+step-skips c k h z = rw (eq-eqb (entry c (before k)) 0 (sym (level-below c k h) ∙ z)) (ap ByB (entry-below c k (omega arith)))
+
+pub step-met : (c : List ℕ) (k : ℕ) → 2 ≤ k → getD c (k - 2) 0 ≢ 0 → ByA (getD c (k - 1) 0) ≡ cameOf (letterAt c k) (entry c k)
+step-met c k h d = rw (ne-eqb (entry c (before k)) 0 (λ z. d (level-below c k h ∙ z))) (ap ByA (entry-below c k (omega arith)))
 
 -- level 2 is met, if there is a level above it
 second-met : {c : List ℕ} {k : ℕ} → Course c k → 3 ≤ k → entry c 2 ≢ 0
@@ -123,12 +132,12 @@ module _ {c : List ℕ} {bottom inner : Bool} {k : ℕ} (O : Opens c bottom k in
         either (same? k 3)
         (λ t.
         let shut = three-shut inner f x (omega (arith, block, less-one k)) e (ap (λ (w : Letter). comesFirst inner w x) (three-A t)) in
-        absurd (true≢false (sym (O .found) ∙ ap (λ (n : ℕ). isOpen inner f n x) t ∙ shut)))
+        absurd (true≢false (sym (O .opened) ∙ ap (λ (n : ℕ). isOpen inner f n x) t ∙ shut)))
         (λ d. omega arith)
 
     -- and it is there: from this block, or from the one before it
     pub hop-forward : forward ≡ true → Among (k - 2) i
-    hop-forward f = rw number (open-forward inner (readOver c k inner) k (entry c k) e (sym over ∙ f) (O .found) block)
+    hop-forward f = rw number (open-forward inner (readOver c k inner) k (entry c k) e (sym over ∙ f) (O .opened) block)
 
     pub hop-backward : forward ≡ false → Among (k - 2) (i - 1)
-    hop-backward f = rw number (open-backward inner (readOver c k inner) k (entry c k) e (sym over ∙ f) (O .found) block)
+    hop-backward f = rw number (open-backward inner (readOver c k inner) k (entry c k) e (sym over ∙ f) (O .opened) block)

@@ -1,17 +1,18 @@
 // The move from a pattern to its neighbours round the circuit.
 use crate::onward::move_on;
+use crate::seeking::seek;
 use crate::seeking::take_apart;
-use pattern_inverse::invert;
 use words::Move;
 use words::limits::LONGEST;
 ghost use mathlib.Core.Path.{_≡_};
 ghost use Prim.Native.Nat.{_≤_};
 ghost use lib.ListN.{length, take};
-ghost use Rattle.listing.specs.Pattern.{Derangement};
 ghost use Rattle.listing.specs.Rank.{rank};
 ghost use Rattle.listing.specs.Limits.{mostPorts};
 ghost use Rattle.listing.specs.Neighbours.{moveBeside};
+ghost use Rattle.listing_course.specs.Course.{Course};
 ghost use Rattle.listing_course.specs.InPlace.{WithInverse};
+ghost use Rattle.listing_course.specs.Onward.{courseMove};
 ghost use Rattle.words.specs.Meaning.{moveOf};
 
 // The move from the pattern of n ports in a working copy, with its inverse, to the one beside it, the next or, backward, the previous. Both arrays are used up.
@@ -26,14 +27,13 @@ pub fn move_beside(copy: &mut [u8; LONGEST], inverse: &mut [u8; LONGEST], n: u8,
     move_on(&levels, n, back, found)
 }
 
-// The same from a lent pattern.
-pub fn move_from(p: &[u8], back: bool) -> Move
-    requires { ⌜ (2 ≤ length (now p)) × (length (now p) ≤ mostPorts) × Derangement (length (now p)) (now p) ⌝ }
-    ensures { λ r. ⌜ moveOf r ≡ moveBeside (length (now (p .entry))) back (rank (length (now (p .entry))) (now (p .entry))) ⌝ }
+// The same from the pattern of n ports that a course makes.
+pub fn move_along(levels: &[u8; LONGEST], n: u8, back: bool) -> Move
+    requires long { ⌜ length (now levels) ≡ mostPorts ⌝ }
+    requires ports { ⌜ (2 ≤ n) × (n ≤ mostPorts) ⌝ }
+    requires course { ⌜ Course (now levels) n ⌝ }
+    ensures { λ r. ⌜ moveOf r ≡ courseMove (now (levels .entry)) n back ⌝ }
 {
-    let mut copy = [0u8; LONGEST];
-    let mut inverse = [0u8; LONGEST];
-    // it is a pattern, so the pass says yes
-    invert(p, &mut copy, &mut inverse);
-    move_beside(&mut copy, &mut inverse, p.len() as u8, back)
+    let found = seek(levels, n, back);
+    move_on(levels, n, back, found)
 }

@@ -1,4 +1,4 @@
-// A pattern taken apart to its course; on the way down the lowest level that is open is sought.
+// The lowest open level of a course, sought on the way down: of a course that is there, and of a pattern that is taken apart to its course.
 use crate::types::Open;
 use pattern_levels::peeling::peel;
 use pattern_levels::telling::block_of;
@@ -12,13 +12,14 @@ ghost use mathlib.Core.Bool.{cond};
 ghost use Prim.Native.Nat.{_≤_};
 ghost use lib.ListN.{length, take};
 ghost use Rattle.listing.specs.Numbers.{before};
+ghost use Rattle.listing.specs.Pattern.{entry};
 ghost use Rattle.listing.specs.Limits.{mostPorts};
 ghost use Rattle.listing.specs.Reading.{comesFirst};
-ghost use Rattle.listing_course.specs.Course.{CourseOf};
+ghost use Rattle.listing_course.specs.Course.{Course, CourseOf};
 ghost use Rattle.listing_course.specs.InPlace.{WithInverse};
 ghost use Rattle.listing_course.specs.Onward.{isOpen};
-ghost use Rattle.listing_course.specs.Seeking.{Sought};
-ghost use Rattle.pattern_levels.specs.Levels.{letterOf, endOf};
+ghost use Rattle.listing_course.specs.Seeking.{letterAt, Sought};
+ghost use Rattle.pattern_levels.specs.Levels.{cameOf, letterOf, endOf};
 ghost use Rattle.pattern_moves.specs.Lowest.{openBy};
 
 // The block that comes last in the list for n ports, read forward or backward.
@@ -54,6 +55,40 @@ fn lowest(above: Open, forward: bool, n: u8, c: Came) -> Open
     above
 }
 
+// The step by which a course comes to n ports: by B if it skips the level below.
+fn step_at(levels: &[u8; LONGEST], n: u8) -> Came
+    requires { ⌜ (length (now levels) ≡ mostPorts) × (2 ≤ n) × (n ≤ mostPorts) ⌝ }
+    ensures { λ r. ⌜ r ≡ cameOf (letterAt (now (levels .entry)) n) (entry (now (levels .entry)) n) ⌝ }
+{
+    let i = levels[(n - 1) as usize];
+    if levels[(n - 2) as usize] == 0 {
+        return Came::ByB(i);
+    }
+    Came::ByA(i)
+}
+
+// Where the list goes on, forward or backward, from the pattern of n ports that a course makes.
+pub fn seek(levels: &[u8; LONGEST], n: u8, back: bool) -> Open
+    requires long { ⌜ length (now levels) ≡ mostPorts ⌝ }
+    requires ports { ⌜ (2 ≤ n) × (n ≤ mostPorts) ⌝ }
+    requires course { ⌜ Course (now levels) n ⌝ }
+    ensures { λ r. ⌜ Sought (now (levels .entry)) n back (r .ports) (r .inner) ⌝ }
+{
+    let mut forward = !back;
+    let mut m = n;
+    let mut found = Open {
+        ports: 0,
+        inner: false,
+    };
+    while FEWEST_PORTS < m {
+        let c = step_at(levels, m);
+        found = lowest(found, forward, m, c);
+        forward = comes_first(forward, c);
+        m = ports_below(c, m);
+    }
+    found
+}
+
 // The pattern of n ports in p, whose inverse is in q, is taken apart, and its course fills the array: the number of level k at place k - 1, and 0 for a level
 // that B skips. The answer is where the list goes on from the pattern, forward or backward.
 pub fn take_apart(
@@ -80,6 +115,7 @@ pub fn take_apart(
         let last = (m - 1) as usize;
         let c = peel(p, q, m);
         levels[last] = block_of(c);
+        // it stays 0 if the step is B, which skips that level
         levels[last - 1] = 0;
         found = lowest(found, forward, m, c);
         forward = comes_first(forward, c);

@@ -22,7 +22,8 @@ use Rattle.listing.proofs.Reading.{rank-read}
 use Rattle.listing_course.specs.InPlace.{WithInverse}
 use Rattle.pattern_levels.specs.Levels.{cameOf, letterOf, endOf, Peeled}
 use Rattle.pattern_levels.specs.declared.types.Came.{Came}
-use Rattle.pattern_levels.proofs.Came.{as-came, two-jacks, shorter-fewer}
+use Rattle.listing_course.proofs.Courses.{shorter-fewer}
+use Rattle.pattern_levels.proofs.Came.{as-came, two-jacks}
 use Rattle.pattern_ranks.specs.Levels.{LevelOf, Placing}
 use Rattle.pattern_ranks.specs.declared.types.Level.{Level}
 

@@ -1,8 +1,7 @@
 -- `campaign_way::coming::coming`: at step 0 the carriage to the leg's first pattern, later the way of the move beside the last mark's pattern.
-use mathlib.Core.Path.{_≡_, sym, ap, _∙_}
-use mathlib.Core.List.{_++_}
+use mathlib.Core.Path.{_≡_, sym, ap, _∙_, subst}
 use Prim.Native.Nat.{_-_, _<_}
-use lib.ListN.{take, drop, replicate}
+use lib.ListN.{take, replicate}
 use lib.Seq.{length-take-le}
 use borrow.Author.Needs.{needs}
 use Rattle.listing.specs.Count.{count}
@@ -13,10 +12,11 @@ use Rattle.words.specs.Meaning.{moveOf}
 use Rattle.promise.specs.Campaign.{toCome}
 use Rattle.promise.specs.Derangements.{derangements}
 use Rattle.plan_rules.specs.Rules.{legIs}
-use Rattle.pattern_course.proofs.Lent.{front-asked, front-put, front-room}
+use Rattle.listing_course.specs.Course.{CourseOf}
+use Rattle.pattern_course.proofs.Lent.{front-asked, front-put}
 use Rattle.campaign_way.specs.Coming.{nextOf}
 use Rattle.campaign_way.proofs.Walks.{walk-listed}
-use Rattle.campaign_way.proofs.Orders.{beside-form, listed-asked, listed-move, later-way}
+use Rattle.campaign_way.proofs.Orders.{beside-form, course-move, later-way}
 use Rattle.campaign_way.proofs.coming.coming.Statement.{statement}
 use Rattle.campaign_way.proofs.coming.coming.Tie as tie
 
@@ -32,39 +32,33 @@ listed c =
     let a = s .args in
     rw (c .rank-along .ensures) (walk-listed (a .n) (s .pre .0) (a .l .start) (a .l .back) (a .k - 1) (s .pre .2))
 
-put-pattern-requires : tie.Need-put-pattern-requires
-put-pattern-requires c κs =
+put-with-course-requires : tie.Need-put-with-course-requires
+put-with-course-requires c κs =
     let s = c .before .before .before in
     front-asked (s .args .n) (c .before .rank-along .result) _ (search needs) (s .pre .1) (listed (c .before))
 
--- the pattern of that rank is in the front of the array
-front : (c : tie.After-put-pattern) → let r = c .before .before in let n = r .before .before .args .n in
-    take n (c .put-pattern .last .1 .0 ++ drop n (replicate mostPorts 0)) ≡ at n (r .rank-along .result)
-front c =
+-- the course is that of the rank's pattern for n ports
+course : (c : tie.After-put-with-course) → let r = c .before .before in let n = r .before .before .args .n in
+    CourseOf (c .put-with-course .result) n (at n (r .rank-along .result))
+course c =
     let r = c .before .before in
-    front-put (r .before .before .args .n) (r .rank-along .result) (replicate mostPorts 0) _ (search needs) (listed r) (c .put-pattern .ensures)
+    subst (λ k. CourseOf (c .put-with-course .result) k (at k (r .rank-along .result)))
+    (length-take-le (r .before .before .args .n) (replicate mostPorts 0) (search needs)) (c .put-with-course .ensures .1)
 
-room : tie.Need-array-share-prefix-t
-room c =
-    let p = c .before in
-    let r = p .before .before in
-    front-room (r .before .before .args .n) (r .rank-along .result) (replicate mostPorts 0) _ (search needs) (listed r) (p .put-pattern .ensures)
-
-move-from-requires : tie.Need-move-from-requires
-move-from-requires c κs =
+move-along-requires : tie.Need-move-along-requires
+move-along-requires c κs =
     let p = c .before .before in
-    let r = p .before .before in
-    let s = r .before .before in
-    listed-asked (s .args .n) (r .rank-along .result) _ (s .pre .0) (s .pre .1) (listed r) (front p)
+    let s = p .before .before .before .before in
+    (search needs, ((s .pre .0, s .pre .1), course p .course))
 
 -- the move that was found is the one beside the rank
-move-is : (c : tie.After-move-from) → let r = c .before .before .before .before .before in let a = r .before .before .args in
-    moveOf (c .move-from .result) ≡ moveBeside (a .n) (a .l .back) (r .rank-along .result)
+move-is : (c : tie.After-move-along) → let r = c .before .before .before .before .before in let a = r .before .before .args in
+    moveOf (c .move-along .result) ≡ moveBeside (a .n) (a .l .back) (r .rank-along .result)
 move-is c =
     let p = c .before .before .before in
     let r = p .before .before in
-    let a = r .before .before .args in
-    listed-move (a .n) (r .rank-along .result) _ (a .l .back) _ (listed r) (front p) (c .move-from .ensures)
+    let s = r .before .before in
+    course-move (s .args .n) (r .rank-along .result) _ (s .args .l .back) _ (s .pre .0) (listed r) (course p) (c .move-along .ensures)
 
 on-the-way-requires : tie.Need-on-the-way-requires
 on-the-way-requires c κs =
@@ -78,7 +72,8 @@ returns-2 c =
     let p = v .before .before .before in
     let r = p .before .before in
     let a = r .before .before .args in
-    later-way (a .n) (legIs (a .l)) (a .k) (take (a .n) (a .q)) _ _ _ _ (r .before .if1 .left) (r .rank-along .ensures) (front p) (move-is v)
+    let pattern = front-put (a .n) (r .rank-along .result) _ _ (search needs) (listed r) (p .put-with-course .ensures .0) in
+    later-way (a .n) (legIs (a .l)) (a .k) (take (a .n) (a .q)) _ _ _ _ (r .before .if1 .left) (r .rank-along .ensures) pattern (move-is v)
     (c .on-the-way .ensures)
 
 pub coming-spec : {M : Type 1} → statement M
@@ -91,9 +86,7 @@ coming-spec =
     (λ c κs. search needs)
     (λ c. search needs)
     (λ c. sym (length-take-le _ _ (search needs)))
-    put-pattern-requires
-    room
-    (λ c. sym (length-take-le _ _ (room (c .before))))
-    move-from-requires
+    put-with-course-requires
+    move-along-requires
     on-the-way-requires
     returns-2)

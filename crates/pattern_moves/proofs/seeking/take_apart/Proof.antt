@@ -1,5 +1,5 @@
--- `pattern_moves::seeking::take_apart` meets its contract: each turn takes one level off, writes its number and looks whether it is open. The loop's invariant is
--- `Going`.
+-- `pattern_moves::seeking::take_apart` meets its contract: each turn takes one level off, writes its number and looks whether it is open. The
+-- invariant of the loop is `Going`.
 -- Assumes nothing.
 use mathlib.Core.Path.{_≡_, refl}
 use Prim.Native.Nat.{_≤_}
@@ -8,7 +8,7 @@ use lib.ListN.{take}
 use borrow.Author.Needs.{needs}
 use Rattle.listing.specs.Limits.{mostPorts}
 use Rattle.pattern_levels.specs.Levels.{letterOf}
-use Rattle.pattern_levels.proofs.Came.{shorter-fewer}
+use Rattle.listing_course.proofs.Courses.{shorter-fewer}
 use Rattle.pattern_moves.proofs.Down.{Going, going-start, going-down, going-end}
 use Rattle.pattern_moves.proofs.seeking.take_apart.Statement.{statement}
 use Rattle.pattern_moves.proofs.seeking.take_apart.Tie as tie

@@ -25,7 +25,8 @@ sound : (c : tie.After-enum-told) → accepted tt ≡ checkOf mostPorts (c .befo
 sound c = ap outcomeTold (sym (c .enum-told .given .1)) ∙ c .before .before .check-inverse .ensures .0
 
 -- and it took the pattern in
-taken : (c : tie.After-enum-told) → let p = c .before .before .before .before .before .before .before .args .p .now in let left = c .before .before .check-inverse .last .1 in
+taken : (c : tie.After-enum-told) → let p = c .before .before .before .before .before .before .before .args .p .now in
+    let left = c .before .before .check-inverse .last .1 in
     TakenIn p (left .0) (left .1 .0)
 taken c = c .before .before .check-inverse .ensures .1 .1 .1 (sound c)
 
