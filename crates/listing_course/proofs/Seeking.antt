@@ -22,7 +22,8 @@ use Rattle.listing.proofs.Ranks.{rank-below, at-rank}
 use Rattle.listing_course.specs.Course.{built, Course, CourseOf, Agrees, Traced}
 use Rattle.listing_course.specs.Onward.{readAt, isOpen, onLevel, goesOn}
 use Rattle.listing_course.specs.Seeking.{letterAt, Found, Sought, Seeking}
-use Rattle.listing_course.proofs.Courses.{last-fits, met-front, below-front, built-pattern, two-letters, shorter-fewer, on-A, on-B, no-course-1, traced-A, traced-B}
+use Rattle.listing_course.proofs.Courses.{last-fits, met-front, below-front, built-pattern, two-letters}
+use Rattle.listing_course.proofs.Courses.{no-course-1, shorter-fewer, on-A, on-B, traced-A, traced-B}
 use Rattle.listing_course.proofs.Onward.{comes-twice, read-bottom, read-A, read-B, goes-two, goes-A, goes-B}
 
 -- ---- one level

@@ -16,7 +16,7 @@ use Rattle.listing.proofs.Numbers.{either, same?}
 use Rattle.listing.proofs.Panels.{same-entries, entry-below, entry-take, entry-same, entry-other}
 use Rattle.listing_course.specs.InPlace.{Inverted}
 use Rattle.listing_course.proofs.Inverse.{inverted-on, inverted-end}
-use Rattle.pattern_inverse.specs.Judged.{Blank, TakenIn, Judged}
+use Rattle.pattern_inverse.specs.Judged.{Blank, Judged}
 
 -- an array of zeros has nothing in it
 pub blank-zeros : (k : ℕ) → Blank (replicate k 0)

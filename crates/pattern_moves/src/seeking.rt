@@ -81,10 +81,10 @@ pub fn seek(levels: &[u8; LONGEST], n: u8, back: bool) -> Open
         inner: false,
     };
     while FEWEST_PORTS < m {
-        let c = step_at(levels, m);
-        found = lowest(found, forward, m, c);
-        forward = comes_first(forward, c);
-        m = ports_below(c, m);
+        let step = step_at(levels, m);
+        found = lowest(found, forward, m, step);
+        forward = comes_first(forward, step);
+        m = ports_below(step, m);
     }
     found
 }
