@@ -20,7 +20,7 @@ use Rattle.listing.proofs.Numbers.{either, below?}
 
 module _ {A B : Type 0} where
   -- an element of a mapped list, for any two values past the ends
-  getD-map : (f : A → B) (l : List A) (k : ℕ) (d : B) (e : A) → k < length l → getD (map f l) k d ≡ f (getD l k e)
+  pub getD-map : (f : A → B) (l : List A) (k : ℕ) (d : B) (e : A) → k < length l → getD (map f l) k d ≡ f (getD l k e)
   getD-map f [] k d e h = absurd (not-suc-le-zero h)
   getD-map f (x ∷ xs) zero d e h = refl
   getD-map f (x ∷ xs) (suc k) d e h = getD-map f xs k d e (le-of-suc-le-suc h)

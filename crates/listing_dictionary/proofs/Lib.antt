@@ -1,0 +1,9 @@
+pub mod Lists
+pub mod Order
+pub mod Free
+pub mod Completions
+pub mod Walk
+pub mod Fillings
+pub mod Patterns
+pub mod Dictionary
+pub mod Cases
