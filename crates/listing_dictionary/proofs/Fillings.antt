@@ -181,20 +181,28 @@ unfolding numberedFrom
 length-numbered zero i k free = refl
 length-numbered (suc m) i k free = ap suc (length-numbered m (suc i) _ _)
 
+-- the port in whose share a number falls is free and not the jack's own, and the number there is one for the jacks after it
+pub chosen-fits : (m i k : ℕ) (free : List ℕ) → Left i (suc m) free → k < completions (suc m) (later i free)
+    → let x = chosen (share m i free) free k in
+    let s = within (share m i free) free k in
+    Choice (share m i free) free k x s × (x ≢ suc i) × (s < completions m (later (suc i) (without x free)))
+chosen-fits m i k free L h =
+    let x = chosen (share m i free) free k in
+    let C = choice (share m i free) 0 free k (L .up) (rw (all-shares m i free L) h) in
+    let ne : x ≢ suc i = λ e. omega (arith, C .below, share-own m i free x e) in
+    (C, ne, rw (share-other m i free x (C .there) ne) at (C .below))
+
 -- it fills the jacks, and has that number
 pub numbered-fits : (m i k : ℕ) (free : List ℕ) → Left i m free → k < completions m (later i free)
     → Fits i free (numberedFrom m i free k) × (numberFrom i free (numberedFrom m i free k) ≡ k)
 unfolding numberedFrom numberFrom
 numbered-fits zero i k free L h = (tt, let b : k < 1 = rw (completions-none i free L) at h in omega arith)
 numbered-fits (suc m) i k free L h =
-    let size = share m i free in
-    let x = chosen size free k in
-    let s = within size free k in
-    let C : Choice size free k x s = choice size 0 free k (L .up) (rw (all-shares m i free L) h) in
-    let ne : x ≢ suc i = λ e. let z : s < 0 = rw (share-own m i free x e) at (C .below) in omega arith in
-    let below : s < completions m (later (suc i) (without x free)) = rw (share-other m i free x (C .there) ne) at (C .below) in
-    let rest = numbered-fits m (suc i) s (without x free) (left-without i m x free L (C .there)) below in
-    ((C .there, ne, rest .0), rw (length-numbered m (suc i) s (without x free)) (omega (arith, C .sum, rest .1)))
+    let c = chosen-fits m i k free L h in
+    let x = chosen (share m i free) free k in
+    let s = within (share m i free) free k in
+    let rest = numbered-fits m (suc i) s (without x free) (left-without i m x free L (c .0 .there)) (c .2) in
+    ((c .0 .there, c .1, rest .0), rw (length-numbered m (suc i) s (without x free)) (omega (arith, c .0 .sum, rest .1)))
 
 -- it stands in the list at that number
 pub numbered-at : (m i k : ℕ) (free : List ℕ) → Left i m free → k < completions m (later i free)

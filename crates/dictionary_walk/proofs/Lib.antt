@@ -1,0 +1,4 @@
+pub mod Between
+pub mod Flags
+pub mod Jacks
+pub mod Turns
