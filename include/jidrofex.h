@@ -33,7 +33,7 @@ extern "C" {
 
 /* The version of this header. It goes up by one whenever a call, a constant or the words of a state change;
  * jidrofex_version gives that of the library. */
-enum { JIDROFEX_VERSION = 3 };
+enum { JIDROFEX_VERSION = 4 };
 
 /* The version of the words of a state, which is saved with them. It goes up by one whenever they change, and only then:
  * a library of a later version goes on with a saved state of the same words. */
@@ -168,6 +168,28 @@ uint8_t jidrofex_previous(uint8_t *pattern, size_t ports, uint64_t answer[JIDROF
 
 /* The rank k further round the circuit, backward for negative k. Gives that rank. Refused: 1, 6. */
 uint8_t jidrofex_step(uint8_t ports, uint64_t rank, int64_t k, uint64_t answer[JIDROFEX_ANSWER_WORDS]);
+
+/* ---- dictionary numbers: the same patterns, numbered from 0 in dictionary order, first jack first */
+
+/* The dictionary number of a pattern: how many patterns come before it in that order. Gives the number.
+ * Refused: 1, 3, 4, 5. */
+uint8_t jidrofex_dictionary_number(const uint8_t *pattern, size_t ports, uint64_t answer[JIDROFEX_ANSWER_WORDS]);
+
+/* The pattern of a dictionary number, written over the bytes of `pattern`. Gives nothing. Refused: 1, 6 (the number is
+ * not below the count). */
+uint8_t jidrofex_dictionary_pattern(uint64_t number, uint8_t *pattern, size_t ports,
+                                    uint64_t answer[JIDROFEX_ANSWER_WORDS]);
+
+/* The pattern becomes the next one in dictionary order; after the last comes the first. Gives nothing.
+ * Refused: 1, 3, 4, 5. */
+uint8_t jidrofex_dictionary_next(uint8_t *pattern, size_t ports, uint64_t answer[JIDROFEX_ANSWER_WORDS]);
+
+/* From a dictionary number to the rank of the same pattern. Gives the rank. Refused: 1, 6 (the number is not below the
+ * count). */
+uint8_t jidrofex_number_to_rank(uint8_t ports, uint64_t number, uint64_t answer[JIDROFEX_ANSWER_WORDS]);
+
+/* From a rank to the dictionary number of the same pattern. Gives the number. Refused: 1, 6. */
+uint8_t jidrofex_rank_to_number(uint8_t ports, uint64_t rank, uint64_t answer[JIDROFEX_ANSWER_WORDS]);
 
 /* ---- a panel */
 

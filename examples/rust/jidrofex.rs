@@ -22,7 +22,7 @@ mod raw {
     }
 }
 
-pub const VERSION: u64 = 3;
+pub const VERSION: u64 = 4;
 pub const STATE_VERSION: u64 = 1;
 pub const ANSWER_WORDS: usize = 5;
 pub const LINE_BYTES: usize = 45;

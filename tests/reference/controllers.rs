@@ -18,7 +18,7 @@ fn words_of(number: u8) -> Vec<u8> {
 /// The version and the words of refusals, as the header has them.
 pub fn library(compared: &mut Compared) {
     let mut answer = [7; 5];
-    compared.same("the version", (told::version(&mut answer), answer), (0, [3, 0, 0, 0, 0]));
+    compared.same("the version", (told::version(&mut answer), answer), (0, [4, 0, 0, 0, 0]));
     let said: [(u8, &[u8]); 6] = [
         (0, b"accepted"),
         (2, b"does not fit the buffer"),

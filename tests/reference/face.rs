@@ -17,6 +17,11 @@ pub mod raw {
         pub fn jidrofex_next(pattern: *mut u8, ports: usize, answer: *mut u64) -> u8;
         pub fn jidrofex_previous(pattern: *mut u8, ports: usize, answer: *mut u64) -> u8;
         pub fn jidrofex_step(ports: u8, rank: u64, k: i64, answer: *mut u64) -> u8;
+        pub fn jidrofex_dictionary_number(pattern: *const u8, ports: usize, answer: *mut u64) -> u8;
+        pub fn jidrofex_dictionary_pattern(number: u64, pattern: *mut u8, ports: usize, answer: *mut u64) -> u8;
+        pub fn jidrofex_dictionary_next(pattern: *mut u8, ports: usize, answer: *mut u64) -> u8;
+        pub fn jidrofex_number_to_rank(ports: u8, number: u64, answer: *mut u64) -> u8;
+        pub fn jidrofex_rank_to_number(ports: u8, rank: u64, answer: *mut u64) -> u8;
         pub fn jidrofex_port_at(panel: *const u8, ports: usize, jack: u8, answer: *mut u64) -> u8;
         pub fn jidrofex_jack_of(panel: *const u8, ports: usize, port: u8, answer: *mut u64) -> u8;
         pub fn jidrofex_carry(panel: *mut u8, ports: usize, line: *const u64, answer: *mut u64) -> u8;
@@ -76,6 +81,26 @@ pub fn previous(pattern: &mut [u8], answer: &mut Answer) -> u8 {
 
 pub fn step(ports: u8, rank: u64, k: i64, answer: &mut Answer) -> u8 {
     unsafe { raw::jidrofex_step(ports, rank, k, answer.as_mut_ptr()) }
+}
+
+pub fn dictionary_number(pattern: &[u8], answer: &mut Answer) -> u8 {
+    unsafe { raw::jidrofex_dictionary_number(pattern.as_ptr(), pattern.len(), answer.as_mut_ptr()) }
+}
+
+pub fn dictionary_pattern(number: u64, pattern: &mut [u8], answer: &mut Answer) -> u8 {
+    unsafe { raw::jidrofex_dictionary_pattern(number, pattern.as_mut_ptr(), pattern.len(), answer.as_mut_ptr()) }
+}
+
+pub fn dictionary_next(pattern: &mut [u8], answer: &mut Answer) -> u8 {
+    unsafe { raw::jidrofex_dictionary_next(pattern.as_mut_ptr(), pattern.len(), answer.as_mut_ptr()) }
+}
+
+pub fn number_to_rank(ports: u8, number: u64, answer: &mut Answer) -> u8 {
+    unsafe { raw::jidrofex_number_to_rank(ports, number, answer.as_mut_ptr()) }
+}
+
+pub fn rank_to_number(ports: u8, rank: u64, answer: &mut Answer) -> u8 {
+    unsafe { raw::jidrofex_rank_to_number(ports, rank, answer.as_mut_ptr()) }
 }
 
 pub fn port_at(panel: &[u8], jack: u8, answer: &mut Answer) -> u8 {

@@ -55,6 +55,8 @@ pub fn pairs(compared: &mut Compared) {
                 names_both(compared, "rank", &pattern, (i, j), |p, a| told::rank(p, a));
                 names_both(compared, "next", &pattern, (i, j), |p, a| told::next(p, a));
                 names_both(compared, "previous", &pattern, (i, j), |p, a| told::previous(p, a));
+                names_both(compared, "dictionary_number", &pattern, (i, j), |p, a| told::dictionary_number(p, a));
+                names_both(compared, "dictionary_next", &pattern, (i, j), |p, a| told::dictionary_next(p, a));
                 names_both_on_panel(compared, &pattern, (i, j));
                 let panel = with_pair(self_joins(n), i, j);
                 compared.same("both jacks of a panel", check_panel(&panel), refused_both(j.into(), i.into()));

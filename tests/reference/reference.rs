@@ -4,6 +4,8 @@
 //! - `list`: the list of patterns, check, count, rank, unrank, next, previous, the signed step
 //! - `circuit`: the list once more, as document 000's procedures gen_up and gen_down produce it, pattern by pattern
 //! - `relations`: one neighbour by relations (3) to (9), without walking the list: the plain Rust that the speed table times
+//! - `dictionary`: the same patterns in dictionary order: number, pattern, next, and translation to our rank and back
+//! - `plain`: dictionary numbers, ranks and their patterns on arrays: the plain Rust that the speed table times
 //! - `panel`: look-ups and orders carried out
 //! - `text`: numbers, order lines, refusals in words and as sentences
 //! - `plan`: the reading of plans
@@ -15,9 +17,11 @@
 
 pub mod campaign;
 pub mod circuit;
+pub mod dictionary;
 pub mod list;
 pub mod named;
 pub mod panel;
+pub mod plain;
 pub mod plan;
 pub mod printer;
 pub mod rehearsal;
@@ -26,7 +30,7 @@ pub mod text;
 pub mod told;
 
 /// The version of include/jidrofex.h that this is the reference of.
-pub const VERSION: u64 = 3;
+pub const VERSION: u64 = 4;
 
 pub const MOST_PORTS: usize = 20;
 pub const MOST_LEGS: usize = 16;

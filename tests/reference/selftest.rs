@@ -1,12 +1,13 @@
 //! The reference held to what is printed: document 000's tables for 4 and 5 ports, the paper's 'Cases to prove' and 'To run', the paper's example;
 //! to the rules of a campaign, the header's words for controllers, both jacks of a repeated entry for every pair of jacks, and demand three on full
-//! circuits; to what plans name, worked by hand; and to itself: three ways to the list (the definition, the procedures, the relations) over every circuit
-//! of 2 to 8 ports, and two ways to the gaps of a plan.
+//! circuits; to what plans name, worked by hand, and to dictionary numbers counted by hand; and to itself: three ways to the list (the definition, the
+//! procedures, the relations) over every circuit of 2 to 8 ports, two ways to the gaps of a plan, and dictionary numbers by counting and by a list.
 //! Ends in a line with the number of comparisons, or in the first one that does not hold.
 
 mod controllers;
 mod gaps;
 mod jacks;
+mod numbers;
 mod rules;
 mod tables;
 
@@ -216,6 +217,8 @@ fn main() {
     gaps::worked(&mut compared);
     gaps::refusals(&mut compared);
     gaps::small_plans(&mut compared);
+    numbers::counted_by_hand(&mut compared);
+    numbers::refusals(&mut compared);
     compared.same("the paper's example", print(PLAN), OUTPUT.to_vec());
     let plan = read_plan(PLAN).expect("the paper's plan is accepted");
     let (text, ended, _) = Rehearsal::first(plan.clone()).orders(1024).expect("its orders fit");
@@ -227,9 +230,11 @@ fn main() {
     compared.same("a long line, read", read_plan(&long).map_err(|f| (f.number, f.place)).err(), Some((8, 1)));
     for n in 2..=8 {
         tables::circuit(n, &mut compared);
+        numbers::whole(n, &mut compared);
     }
     for n in 9..=20 {
         tables::joins(n, &mut compared);
+        numbers::spread(n, &mut compared);
     }
     for n in 2..=6 {
         for start in [0, count_of(n) / 2, count_of(n) - 1] {

@@ -6,7 +6,7 @@ use crate::named::Named;
 use crate::plan::read_plan;
 use crate::rehearsal::{Rehearsal, REHEARSAL_WORDS};
 use crate::text::Line;
-use crate::{list, panel, refusal, text, Refusal, VERSION};
+use crate::{dictionary, list, panel, refusal, text, Refusal, VERSION};
 
 pub type Answer = [u64; 5];
 
@@ -94,8 +94,8 @@ pub fn rank(pattern: &[u8], answer: &mut Answer) -> u8 {
     tell(list::rank(pattern).map(|rank| one(rank as u64)), answer)
 }
 
-pub fn unrank(rank: u64, pattern: &mut [u8], answer: &mut Answer) -> u8 {
-    let found = list::unrank(pattern.len(), rank.into());
+/// A call that gives nothing but the pattern that it found, written over the lent one.
+fn put(found: Result<Vec<u8>, Refusal>, pattern: &mut [u8], answer: &mut Answer) -> u8 {
     tell(
         found.map(|there| {
             pattern.copy_from_slice(&there);
@@ -103,6 +103,10 @@ pub fn unrank(rank: u64, pattern: &mut [u8], answer: &mut Answer) -> u8 {
         }),
         answer,
     )
+}
+
+pub fn unrank(rank: u64, pattern: &mut [u8], answer: &mut Answer) -> u8 {
+    put(list::unrank(pattern.len(), rank.into()), pattern, answer)
 }
 
 fn beside(found: Result<(Vec<u8>, Move), Refusal>, pattern: &mut [u8], answer: &mut Answer) -> u8 {
@@ -125,6 +129,26 @@ pub fn previous(pattern: &mut [u8], answer: &mut Answer) -> u8 {
 
 pub fn step(ports: u8, rank: u64, k: i64, answer: &mut Answer) -> u8 {
     tell(list::step(ports.into(), rank.into(), k.into()).map(|rank| one(rank as u64)), answer)
+}
+
+pub fn dictionary_number(pattern: &[u8], answer: &mut Answer) -> u8 {
+    tell(dictionary::number(pattern).map(|number| one(number as u64)), answer)
+}
+
+pub fn dictionary_pattern(number: u64, pattern: &mut [u8], answer: &mut Answer) -> u8 {
+    put(dictionary::pattern(pattern.len(), number.into()), pattern, answer)
+}
+
+pub fn dictionary_next(pattern: &mut [u8], answer: &mut Answer) -> u8 {
+    put(dictionary::next(pattern), pattern, answer)
+}
+
+pub fn number_to_rank(ports: u8, number: u64, answer: &mut Answer) -> u8 {
+    tell(dictionary::number_to_rank(ports.into(), number.into()).map(|rank| one(rank as u64)), answer)
+}
+
+pub fn rank_to_number(ports: u8, rank: u64, answer: &mut Answer) -> u8 {
+    tell(dictionary::rank_to_number(ports.into(), rank.into()).map(|number| one(number as u64)), answer)
 }
 
 pub fn port_at(panel: &[u8], jack: u8, answer: &mut Answer) -> u8 {
