@@ -19,11 +19,11 @@ use std::process::exit;
 use std::time::{Duration, Instant, SystemTime, UNIX_EPOCH};
 
 const SEED: u64 = 20;
-const CASES: usize = 1_440_000;
+const CASES: usize = 2_036_000;
 const LONG_CASES: usize = 40_000_000;
 const MOST_DIFFERENCES: usize = 10;
 /// From so many cases on, every group is large enough to meet the numbers that it must meet.
-const FULL: usize = 320_000;
+const FULL: usize = 360_000;
 
 /// What a group compared: how often each number came, and each kind of move or line.
 #[derive(Default)]

@@ -2,6 +2,7 @@
 //! another from a generator of numbers until it has compared its share.
 
 mod campaigns;
+mod dictionary;
 mod fixed;
 mod made;
 mod named;
@@ -14,6 +15,7 @@ use crate::calls::Name;
 use crate::inputs::Rng;
 use crate::Harness;
 use campaigns::*;
+use dictionary::*;
 use fixed::*;
 use made::*;
 use named::*;
@@ -36,7 +38,7 @@ pub struct Group {
     pub meets: &'static [u8],
 }
 
-pub const GROUPS: [Group; 46] = [
+pub const GROUPS: [Group; 57] = [
     Group { name: "library", work: Work::Whole(library), meets: &[0, 2] },
     Group { name: "count", work: Work::Whole(count), meets: &[0, 1] },
     Group { name: "circuits", work: Work::Whole(circuits), meets: &[0] },
@@ -78,10 +80,21 @@ pub const GROUPS: [Group; 46] = [
     Group { name: "random rehearsals", work: Work::Share(2, random_rehearsals), meets: &[0, 15] },
     Group { name: "named", work: Work::Share(30, named), meets: &[0, 2] },
     Group { name: "named, damaged plans", work: Work::Share(6, damaged_named), meets: &[0, 1, 2, 6, 7, 8, 9, 10, 11] },
+    Group { name: "dictionary_number", work: Work::Share(12, |h, r| on_numbered(h, r, Name::DictionaryNumber)), meets: &[0, 1, 3, 4, 5] },
+    Group { name: "dictionary_pattern", work: Work::Share(12, dictionary_pattern), meets: &[0, 1, 6] },
+    Group { name: "dictionary_next", work: Work::Share(15, |h, r| on_numbered(h, r, Name::DictionaryNext)), meets: &[0, 1, 3, 4, 5] },
+    Group { name: "number_to_rank", work: Work::Share(12, number_to_rank), meets: &[0, 1, 6] },
+    Group { name: "rank_to_number", work: Work::Share(12, rank_to_number), meets: &[0, 1, 6] },
+    Group { name: "dictionary, walks", work: Work::Share(15, dictionary_walks), meets: &[0] },
+    Group { name: "dictionary, there and back", work: Work::Share(12, there_and_back), meets: &[0] },
     // fixed sets too, after the shares so that these are not smaller for them
     Group { name: "both jacks", work: Work::Whole(both_jacks), meets: &[3, 4, 5] },
     Group { name: "numbers and places", work: Work::Whole(numbers_and_places), meets: &[3, 4, 5] },
     Group { name: "sentences", work: Work::Whole(sentences), meets: &[0, 2] },
     Group { name: "named, refusals", work: Work::Whole(named_refusals), meets: &[0, 1, 2, 6, 7, 8, 9, 10, 11] },
+    Group { name: "dictionary, all patterns of 2 to 8 ports", work: Work::Whole(small_dictionaries), meets: &[0] },
+    Group { name: "dictionary, ends", work: Work::Whole(dictionary_ends), meets: &[0, 6] },
+    Group { name: "dictionary, lengths and ports", work: Work::Whole(lengths_and_ports), meets: &[0, 1, 3, 4, 5, 6] },
+    Group { name: "dictionary, faults", work: Work::Whole(dictionary_faults), meets: &[3, 4, 5] },
     Group { name: "named, all plans of one and two legs over 2 to 5 ports", work: Work::Whole(small_plans), meets: &[0] },
 ];

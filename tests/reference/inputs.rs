@@ -2,6 +2,7 @@
 
 mod arcs;
 mod lines;
+mod numbers;
 mod patterns;
 mod plans;
 mod rng;
@@ -9,6 +10,7 @@ mod states;
 
 pub use arcs::*;
 pub use lines::*;
+pub use numbers::*;
 pub use patterns::*;
 pub use plans::*;
 pub use rng::Rng;

@@ -90,7 +90,7 @@ pub fn null_pointers(h: &mut Harness) {
     const LINE: [u64; 4] = [4, 5, 0, 0];
     const PANEL: [u8; 2] = [2, 1];
     const REFUSED: [u64; 5] = [5, 2, 0, 0, 0];
-    let calls: [(&str, Made, Made); 24] = [
+    let calls: [(&str, Made, Made); 27] = [
         ("refusal_words", |a| unsafe { raw::jidrofex_refusal_words(0, null_mut(), 0, a.as_mut_ptr()) }, |a| told::refusal_words(0, &mut [], a)),
         (
             "refusal_sentence",
@@ -103,6 +103,9 @@ pub fn null_pointers(h: &mut Harness) {
         ("unrank", |a| unsafe { raw::jidrofex_unrank(0, null_mut(), 0, a.as_mut_ptr()) }, |a| told::unrank(0, &mut [], a)),
         ("next", |a| unsafe { raw::jidrofex_next(null_mut(), 0, a.as_mut_ptr()) }, |a| told::next(&mut [], a)),
         ("previous", |a| unsafe { raw::jidrofex_previous(null_mut(), 0, a.as_mut_ptr()) }, |a| told::previous(&mut [], a)),
+        ("dictionary_number", |a| unsafe { raw::jidrofex_dictionary_number(null(), 0, a.as_mut_ptr()) }, |a| told::dictionary_number(&[], a)),
+        ("dictionary_pattern", |a| unsafe { raw::jidrofex_dictionary_pattern(0, null_mut(), 0, a.as_mut_ptr()) }, |a| told::dictionary_pattern(0, &mut [], a)),
+        ("dictionary_next", |a| unsafe { raw::jidrofex_dictionary_next(null_mut(), 0, a.as_mut_ptr()) }, |a| told::dictionary_next(&mut [], a)),
         ("port_at", |a| unsafe { raw::jidrofex_port_at(null(), 0, 1, a.as_mut_ptr()) }, |a| told::port_at(&[], 1, a)),
         ("jack_of", |a| unsafe { raw::jidrofex_jack_of(null(), 0, 1, a.as_mut_ptr()) }, |a| told::jack_of(&[], 1, a)),
         ("carry", |a| unsafe { raw::jidrofex_carry(null_mut(), 0, LINE.as_ptr(), a.as_mut_ptr()) }, |a| told::carry(&mut [], &LINE, a)),

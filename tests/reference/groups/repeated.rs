@@ -7,6 +7,7 @@ use crate::Harness;
 use reference::campaign::{State, COVERED, PANEL, STANDING, WORDS};
 use reference::list::{at, count_of};
 use reference::plan::{Leg, Plan};
+use std::mem::discriminant;
 
 /// A fault as it was built: the number, the jack at fault and the earlier one, 0 unless the number is 4.
 #[derive(Clone, Copy)]
@@ -31,7 +32,7 @@ struct Faulty {
     as_panel: Fault,
 }
 
-fn put(entries: &[u8], jack: u8, entry: u8) -> Vec<u8> {
+pub fn put(entries: &[u8], jack: u8, entry: u8) -> Vec<u8> {
     let mut changed = entries.to_vec();
     changed[usize::from(jack) - 1] = entry;
     changed
@@ -42,12 +43,12 @@ fn entry(entries: &[u8], jack: u8) -> u8 {
 }
 
 /// The entries with the one at jack j made equal to the one at jack i.
-fn with_pair(entries: &[u8], i: u8, j: u8) -> Vec<u8> {
+pub fn with_pair(entries: &[u8], i: u8, j: u8) -> Vec<u8> {
     put(entries, j, entry(entries, i))
 }
 
 /// A panel of 3 ports and more with one self-join alone, at jack k: the home of the other jacks, round which the ports go.
-fn one_self_join(n: u8, k: u8) -> Vec<u8> {
+pub fn one_self_join(n: u8, k: u8) -> Vec<u8> {
     let others: Vec<u8> = (1..=n).filter(|&jack| jack != k).collect();
     let mut entries = vec![k; n.into()];
     for (place, &jack) in others.iter().enumerate() {
@@ -111,12 +112,15 @@ fn of_pair(rng: &mut Rng, n: u8, i: u8, j: u8) -> Vec<Faulty> {
     cases
 }
 
+/// The calls that take a pattern; the others here take a panel.
+const ON_PATTERN: [Name; 6] = [Name::Check, Name::Rank, Name::Next, Name::Previous, Name::DictionaryNumber, Name::DictionaryNext];
+
 /// The calls on a case, each with the fault that it is wanted to say. Jacks, ports, lines and words that would be refused as well come after the panel.
 fn calls_on(rng: &mut Rng, case: &Faulty, words: &[Vec<u64>]) -> Vec<(Call, Fault)> {
     let n = case.entries.len() as u64;
     let on = |name| Call::on_bytes(name, case.entries.clone());
     let with = |name, words: &[u64]| Call::on_both(name, case.entries.clone(), words.to_vec());
-    let mut calls: Vec<(Call, Fault)> = [Name::Check, Name::Rank, Name::Next, Name::Previous].map(|name| (on(name), case.as_pattern)).into();
+    let mut calls: Vec<(Call, Fault)> = ON_PATTERN.map(|name| (on(name), case.as_pattern)).into();
     let any = rng.between(1, case.entries.len()) as u8;
     let mut of_panel = vec![on(Name::CheckPanel)];
     for one in [any, 0] {
@@ -180,7 +184,7 @@ fn first_at_fault(entries: &[u8], panel: bool) -> (u8, u64) {
 /// The number and the place of the library alone, beside the paper's order: whatever its second number, these are as they were before there was one.
 pub fn numbers_and_places(h: &mut Harness) {
     each(h.seed, |call, _| {
-        let panel = !matches!(call.name, Name::Check | Name::Rank | Name::Next | Name::Previous);
+        let panel = !ON_PATTERN.iter().any(|name| discriminant(name) == discriminant(&call.name));
         let wanted = first_at_fault(&call.bytes, panel);
         let found = LIBRARY.run(&call);
         h.compare_made(&format!("number and place: {call:?}"), wanted.0, (found.number, found.answer[0]), wanted);

@@ -40,11 +40,16 @@ pub fn rank(rng: &mut Rng, n: usize) -> u128 {
 
 /// A rank that need not be one.
 pub fn any_rank(rng: &mut Rng, n: usize) -> u64 {
+    below_the_count_or_not(rng, n, rank)
+}
+
+/// One below the count, made so, or one that need not be.
+pub fn below_the_count_or_not(rng: &mut Rng, n: usize, below: fn(&mut Rng, usize) -> u128) -> u64 {
     let count = if (2..=20).contains(&n) { count_of(n) as u64 } else { 10 };
     match rng.below(10) {
         0 => rng.pick(&[count, count + 1, u64::MAX, 1 << 63]),
         1 => wide(rng),
-        _ if (2..=20).contains(&n) => rank(rng, n) as u64,
+        _ if (2..=20).contains(&n) => below(rng, n) as u64,
         _ => wide(rng),
     }
 }
