@@ -8,7 +8,9 @@ BEGIN {
     length_of["state"] = length_of["rehearsal"] = "words"
     length_of["gaps"] = "numbers"
     # the field that has the numbers of a call; 15 stands before those of a text that is read into words
-    fields = "check:check check_panel:checkPanel count:count rank:rank unrank:unrank next:beside previous:beside step:step port_at:portAt jack_of:jackOfPort" \
+    fields = "check:check check_panel:checkPanel count:count rank:rank unrank:unrank next:beside previous:beside step:step" \
+        " dictionary_number:dictionaryNumber dictionary_pattern:dictionaryPattern dictionary_next:dictionaryNext number_to_rank:numberToRank" \
+        " rank_to_number:rankToNumber port_at:portAt jack_of:jackOfPort" \
         " carry:carry write_line:writeLine read_line:readLine begin:15+readPlan named:named status:status request:asked report:reported report_mark:reportedMark" \
         " resume:resume rehearse:15+rehearse orders:fill refusal_words:refusalWords refusal_sentence:refusalSentence version:never"
     # the constants that have the header's name, less its beginning

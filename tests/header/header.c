@@ -8,6 +8,7 @@
 
 #include "compared.h"
 #include "patterns.h"
+#include "dictionary.h"
 #include "lines.h"
 #include "campaigns.h"
 #include "named.h"
@@ -24,6 +25,9 @@ int main(void)
     pattern_counts();
     pattern_moves();
     pattern_steps();
+    dictionary_numbers();
+    refused_numbers();
+    dictionary_faults();
     look_ups();
     panel_faults();
     carries();
