@@ -2,6 +2,7 @@
 //! deepest stack of each call. Each time is the median of several runs with the least and the most; nothing is asserted of any.
 
 mod campaign;
+mod dictionary;
 mod named;
 mod stack;
 
@@ -274,6 +275,7 @@ fn main() {
     println!("Machine: {}. Medians of {} runs, least and most in brackets.", machine(), effort().runs);
     calls_table();
     circuits_table();
+    dictionary::dictionary_table();
     named::named_table();
     campaign::campaign_table();
     printer_table();

@@ -121,6 +121,12 @@ pub fn stack_table() {
     show("next", deepest(nothing, |l| accepted(face::next(&mut l.pattern, &mut l.answer))));
     show("previous", deepest(nothing, |l| accepted(face::previous(&mut l.pattern, &mut l.answer))));
     show("step", deepest(nothing, |l| accepted(face::step(20, l.pattern[0].into(), i64::MIN, &mut l.answer))));
+    show("dictionary_number", deepest(nothing, |l| accepted(face::dictionary_number(&l.pattern, &mut l.answer))));
+    let dictionary_pattern = |l: &mut Lent| accepted(face::dictionary_pattern(u64::from(l.pattern[0]) << 54, &mut l.pattern, &mut l.answer));
+    show("dictionary_pattern", deepest(nothing, dictionary_pattern));
+    show("dictionary_next", deepest(nothing, |l| accepted(face::dictionary_next(&mut l.pattern, &mut l.answer))));
+    show("number_to_rank", deepest(nothing, |l| accepted(face::number_to_rank(20, u64::from(l.pattern[0]) << 54, &mut l.answer))));
+    show("rank_to_number", deepest(nothing, |l| accepted(face::rank_to_number(20, u64::from(l.pattern[0]) << 54, &mut l.answer))));
     show("port_at", deepest(nothing, |l| accepted(face::port_at(&l.pattern, 20, &mut l.answer))));
     show("jack_of", deepest(nothing, |l| accepted(face::jack_of(&l.pattern, 20, &mut l.answer))));
     show("carry", deepest(nothing, |l| accepted(face::carry(&mut l.pattern, &[2, 1, 20, 3], &mut l.answer))));

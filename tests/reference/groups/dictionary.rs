@@ -139,7 +139,7 @@ fn faulty(h: &mut Harness, entries: Vec<u8>, number: u8, jack: u8, earlier: u8) 
     }
 }
 
-/// Each of 3, 4 and 5 at every jack of 2 to 20 ports, and 4 with every earlier jack: in the first pattern in dictionary order, the last, home, and some of chance.
+/// Each of 3, 4 and 5 at every jack of 2 to 20 ports, 4 with every earlier jack: in the first pattern in dictionary order, the last, home, and some of chance.
 pub fn dictionary_faults(h: &mut Harness) {
     let mut rng = Rng::of(h.seed, "dictionary, faults", 0);
     for n in 2..=20 {
@@ -160,7 +160,7 @@ pub fn dictionary_faults(h: &mut Harness) {
             if n > 2 {
                 faulty(h, one_self_join(n, jack), 5, jack, 0);
             }
-            // every jack from this one on has its own port, and the jacks before it those of home, whose last has port 1
+            // every jack from this one on has its own port, and those before it are a home by themselves, which one jack alone cannot be
             if jack != 2 {
                 let own = (2..jack).chain([1]).take(usize::from(jack) - 1).chain(jack..=n).collect();
                 faulty(h, own, 5, jack, 0);
