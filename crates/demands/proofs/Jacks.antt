@@ -18,6 +18,7 @@ use Rattle.pattern_check.specs.Jacks.{Second}
 use Rattle.pattern_check.proofs.Alone.{check-alone}
 use Rattle.pattern_check.proofs.Jacks.{none-second, check-second}
 use Rattle.patterns.specs.Calls.{rankOf, besideOf}
+use Rattle.dictionary.specs.Calls.{dictionaryNumberOf}
 use Rattle.panel.specs.Calls.{onPanel, portOf, jackOf, carryOf}
 use Rattle.campaign_state.specs.Fitness.{fit}
 use Rattle.campaign_state.specs.declared.State.{State}
@@ -77,12 +78,14 @@ panel-second p fits a = panel-both p fits a .second
 -- ---- the calls
 
 pub both-jacks : BothJacks
-unfolding rankOf besideOf portOf jackOf carryOf resumeOf resumeTold onWords
+unfolding rankOf besideOf dictionaryNumberOf portOf jackOf carryOf resumeOf resumeTold onWords
 both-jacks = record {
   check = check-both true;
   checkPanel = check-both false;
   rank = λ p. on-both true p _ (λ x. plain-accepted p _);
   beside = λ back p. on-both true p _ (λ x. plain-accepted p _);
+  dictionaryNumber = λ p. on-both true p _ (λ x. plain-accepted p _);
+  dictionaryNext = check-both true;
   portAt = λ p j. panel-both p _ _;
   jackOfPort = λ p v. panel-both p _ _;
   carry = λ l p. panel-both p _ _;

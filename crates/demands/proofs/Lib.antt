@@ -3,6 +3,7 @@
 pub mod Jacks
 pub mod One
 pub mod Named
+pub mod Dictionary
 pub mod Two
 pub mod Three
 pub mod Bytes

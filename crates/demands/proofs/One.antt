@@ -20,6 +20,8 @@ use Rattle.pattern_check.specs.Faults.{Fault, sound, outside, repeated, ownJack
 use Rattle.pattern_check.specs.Calls.{checkAs, checkOf}
 use Rattle.pattern_check.proofs.Jacks.{check-second}
 use Rattle.patterns.specs.Calls.{ranked, countOf, rankOf, unrankOf, unrankBytes, besideOf, besideBytes, stepOf}
+use Rattle.dictionary.specs.Calls.{listedOf, dictionaryNumberOf, dictionaryPatternOf, dictionaryPatternBytes, dictionaryNextOf, dictionaryNextBytes}
+use Rattle.dictionary.specs.Calls.{numberToRankOf, rankToNumberOf}
 use Rattle.panel.specs.Calls.{onPanel, portOf, jackOf, carryOf, carryBytes}
 use Rattle.panel.proofs.Accepted.{panel-refused}
 use Rattle.panel.proofs.Refusals.{refusals}
@@ -75,6 +77,10 @@ ranked-numbers : {A : Type 0} (n r : ℕ) (a : A) → Refuses (1 ∷ 6 ∷ []) (
 unfolding ranked
 ranked-numbers n r a =
     of-test (Refuses (1 ∷ 6 ∷ [])) (ltb r (count n)) _ _ (each-accepted (Listed (1 ∷ 6 ∷ [])) a) (from-refused (1 ∷ 6 ∷ []) 6 nowhere refl (inr (inl refl)))
+
+listed-numbers : (n k : ℕ) → Refuses (1 ∷ 6 ∷ []) (listedOf mostPorts n k)
+unfolding listedOf
+listed-numbers n k = from-sized (1 ∷ 6 ∷ []) mostPorts n _ (inl refl) (ranked-numbers n k tt)
 
 -- ---- the panel
 
@@ -290,7 +296,7 @@ resume-kept s p k q e = ap (λ x. goesOn x (panelIn p s) s) e
 -- ---- demand one
 
 pub demand-one : DemandOne
-unfolding countOf rankOf unrankOf unrankBytes besideOf besideBytes stepOf portOf jackOf carryOf carryBytes writeBytes
+unfolding countOf rankOf unrankOf unrankBytes besideOf besideBytes stepOf dictionaryNumberOf dictionaryPatternBytes dictionaryNextBytes numberToRankOf rankToNumberOf portOf jackOf carryOf carryBytes writeBytes
 demand-one = record {
   check = check-numbers;
   checkPanel = check-panel-numbers;
@@ -301,6 +307,13 @@ demand-one = record {
   beside = λ back p. each-then (Listed ofPattern) _ _ (check-numbers p) (λ ok. each-accepted (Listed ofPattern) _);
   besideKeeps = λ back p. kept (besideOf mostPorts back p) _ p;
   step = λ n r z. from-sized (1 ∷ 6 ∷ []) mostPorts n _ (inl refl) (ranked-numbers n r _);
+  dictionaryNumber = λ p. each-then (Listed ofPattern) _ _ (check-numbers p) (λ ok. each-accepted (Listed ofPattern) _);
+  dictionaryPattern = λ k out. listed-numbers (length out) k;
+  dictionaryPatternKeeps = λ k out. kept (dictionaryPatternOf mostPorts k out) _ out;
+  dictionaryNext = check-numbers;
+  dictionaryNextKeeps = λ p. kept (dictionaryNextOf mostPorts p) _ p;
+  numberToRank = λ n k. each-then (Listed (1 ∷ 6 ∷ [])) _ _ (listed-numbers n k) (λ ok. each-accepted (Listed (1 ∷ 6 ∷ [])) _);
+  rankToNumber = λ n r. each-then (Listed (1 ∷ 6 ∷ [])) _ _ (listed-numbers n r) (λ ok. each-accepted (Listed (1 ∷ 6 ∷ [])) _);
   portAt = λ p j. panel-numbers p _ _;
   jackOfPort = λ p v. panel-numbers p _ _;
   carry = λ l p. panel-numbers p _ _;

@@ -9,6 +9,8 @@ use Rattle.pattern_check.proofs.Only.{only-check}
 use Rattle.pattern_check.proofs.Contracts.{check-says, check-panel-says}
 use Rattle.patterns.proofs.Only.{only-count, only-rank, only-unrank, only-beside, only-step}
 use Rattle.patterns.proofs.Contracts.{count-says, rank-says, unrank-says, next-says, previous-says, step-says}
+use Rattle.dictionary.proofs.Only.{only-number, only-numbered, only-next, only-to-rank, only-to-number}
+use Rattle.dictionary.proofs.Contracts as dictionary
 use Rattle.panel.proofs.Only.{only-port-at, only-jack-of, only-carry}
 use Rattle.panel.proofs.Contracts.{port-at-says, jack-of-says, carry-says}
 use Rattle.text_numbers.proofs.Only.{only-read-number, only-read-signed, only-places, only-digits}
@@ -36,6 +38,7 @@ use Rattle.printing.proofs.Contracts.{rehearse-says, fill-says}
 use Rattle.face_laws.proofs.Only as face
 use Rattle.face_words.proofs.Contracts as face-words
 use Rattle.face_patterns.proofs.Contracts as face-patterns
+use Rattle.face_dictionary.proofs.Contracts as face-dictionary
 use Rattle.face_panel.proofs.Contracts as face-panel
 use Rattle.face_lines.proofs.Contracts as face-lines
 use Rattle.face_plans.proofs.Contracts as face-plans
@@ -61,6 +64,11 @@ each-call-one = record {
   next = one-by next-says (λ κs a r s e f h k. both (only-beside _ _ r s _ _ (h .0) (h .1) (k .0) (k .1)));
   previous = one-by previous-says (λ κs a r s e f h k. both (only-beside _ _ r s _ _ (h .0) (h .1) (k .0) (k .1)));
   step = one-by step-says (λ κs a r s e f. only-step _ _ _ r s);
+  number = one-by dictionary.number-says (λ κs a r s e f. only-number _ r s);
+  numbered = one-by dictionary.numbered-says (λ κs a r s e f h k. both (only-numbered _ _ r s _ _ (h .0) (h .1) (k .0) (k .1)));
+  nextInOrder = one-by dictionary.next-says (λ κs a r s e f h k. both (only-next _ r s _ _ (h .0) (h .1) (k .0) (k .1)));
+  toRank = one-by dictionary.to-rank-says (λ κs a r s e f. only-to-rank _ _ r s);
+  toNumber = one-by dictionary.to-number-says (λ κs a r s e f. only-to-number _ _ r s);
   portAt = one-by port-at-says (λ κs a r s e f. only-port-at _ _ r s);
   jackOf = one-by jack-of-says (λ κs a r s e f. only-jack-of _ _ r s);
   carry = one-by carry-says (λ κs a r s e f h k. both (only-carry _ _ r s _ _ (h .0) (h .1) (k .0) (k .1)));
@@ -98,6 +106,11 @@ each-call-one = record {
   faceNext = one-by face-patterns.next-says (λ κs a r s e f. face.only-beside _ _ _ _);
   facePrevious = one-by face-patterns.previous-says (λ κs a r s e f. face.only-beside _ _ _ _);
   faceStep = one-by face-patterns.step-says (λ κs a r s e f. face.only-step _ _ _ _ _);
+  faceDictionaryNumber = one-by face-dictionary.dictionary-number-says (λ κs a r s e f. face.only-dictionary-number _ _ _);
+  faceDictionaryPattern = one-by face-dictionary.dictionary-pattern-says (λ κs a r s e f. face.only-dictionary-pattern _ _ _ _);
+  faceDictionaryNext = one-by face-dictionary.dictionary-next-says (λ κs a r s e f. face.only-dictionary-next _ _ _);
+  faceNumberToRank = one-by face-dictionary.number-to-rank-says (λ κs a r s e f. face.only-number-to-rank _ _ _ _);
+  faceRankToNumber = one-by face-dictionary.rank-to-number-says (λ κs a r s e f. face.only-rank-to-number _ _ _ _);
   facePortAt = one-by face-panel.port-at-says (λ κs a r s e f. face.only-port-at _ _ _ _);
   faceJackOf = one-by face-panel.jack-of-says (λ κs a r s e f. face.only-jack-of _ _ _ _);
   faceCarry = one-by face-panel.carry-says (λ κs (panel, (line, _)) r s e f. face.only-carry (now line) (now panel) _ _);

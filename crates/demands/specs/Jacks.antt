@@ -16,6 +16,8 @@ use Rattle.pattern_check.specs.Faults.{seek}
 use Rattle.pattern_check.specs.Calls.{checkAs, paperCheck}
 use Rattle.pattern_check.specs.Jacks.{Second}
 use Rattle.patterns.specs.Calls.{rankOf, besideOf}
+use Rattle.listing_dictionary.specs.Number.{number}
+use Rattle.dictionary.specs.Calls.{dictionaryNumberOf, dictionaryNextOf}
 use Rattle.panel.specs.Calls.{portOf, jackOf, carryOf}
 use Rattle.campaign_state.specs.declared.State.{State}
 use Rattle.campaign_onward.specs.Calls.{fitTold, resumeOf}
@@ -43,6 +45,8 @@ pub record BothJacks : Type 0 where
   pub checkPanel : (p : List ℕ) → TellsBoth false p (checkAs false mostPorts p) (paperCheck false mostPorts p)
   pub rank : (p : List ℕ) → TellsBoth true p (rankOf mostPorts p) (paperPattern p (list.rank (length p) p))
   pub beside : (back : Bool) (p : List ℕ) → TellsBoth true p (besideOf mostPorts back p) (paperPattern p (moveBeside (length p) back (list.rank (length p) p)))
+  pub dictionaryNumber : (p : List ℕ) → TellsBoth true p (dictionaryNumberOf mostPorts p) (paperPattern p (number (length p) p))
+  pub dictionaryNext : (p : List ℕ) → TellsBoth true p (dictionaryNextOf mostPorts p) (paperCheck true mostPorts p)
   pub portAt : (p : List ℕ) (j : ℕ) → TellsBoth false p (portOf mostPorts p j) (paperPanel p (oneOf (length p) j) (entry p j))
   pub jackOfPort : (p : List ℕ) (v : ℕ) → TellsBoth false p (jackOf mostPorts p v) (paperPanel p (oneOf (length p) v) (seek p v 1 (length p)))
   pub carry : (l : Line) (p : List ℕ) → TellsBoth false p (carryOf mostPorts l p) (paperPanel p (lineFits (length p) l) tt)

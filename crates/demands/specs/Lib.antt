@@ -1,8 +1,9 @@
--- Demand one; both jacks of a repeated port; what a plan names; demand two; the robot of demand three; the calls of the order printer; one answer to each call; what
+-- Demand one; both jacks of a repeated port; what a plan names; dictionary numbers; demand two; the robot of demand three; the calls of the order printer; one answer to each call; what
 -- adds to covered.
 pub mod One
 pub mod Jacks
 pub mod Named
+pub mod Dictionary
 pub mod Two
 pub mod Robot
 pub mod Words

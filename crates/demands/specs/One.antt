@@ -13,6 +13,8 @@ use Rattle.words.specs.Told.{Told, Spot, accepted, refused, earlierNumber, Each
 use Rattle.words.specs.declared.Line.{Line}
 use Rattle.pattern_check.specs.Calls.{checkAs, checkOf}
 use Rattle.patterns.specs.Calls.{countOf, rankOf, unrankOf, unrankBytes, besideOf, besideBytes, stepOf}
+use Rattle.dictionary.specs.Calls.{dictionaryNumberOf, dictionaryPatternOf, dictionaryPatternBytes, dictionaryNextOf, dictionaryNextBytes}
+use Rattle.dictionary.specs.Calls.{numberToRankOf, rankToNumberOf}
 use Rattle.panel.specs.Calls.{portOf, jackOf, carryOf, carryBytes}
 use Rattle.line_format.specs.Calls.{writeOf, writeBytes}
 use Rattle.line_format.specs.Reading.{readOf}
@@ -62,6 +64,14 @@ pub record DemandOne : Type 0 where
   pub beside : (back : Bool) (p : List ℕ) → Refuses (1 ∷ 3 ∷ 4 ∷ 5 ∷ []) (besideOf mostPorts back p)
   pub besideKeeps : (back : Bool) (p : List ℕ) → Keeps (besideOf mostPorts back p) (besideBytes mostPorts back p) p
   pub step : (n r : ℕ) (z : ℤ) → Refuses (1 ∷ 6 ∷ []) (stepOf mostPorts n r z)
+  -- ---- dictionary numbers: 'Refusals: 1, 3 to 6 as today, in the same order'
+  pub dictionaryNumber : (p : List ℕ) → Refuses (1 ∷ 3 ∷ 4 ∷ 5 ∷ []) (dictionaryNumberOf mostPorts p)
+  pub dictionaryPattern : (k : ℕ) (out : List ℕ) → Refuses (1 ∷ 6 ∷ []) (dictionaryPatternOf mostPorts k out)
+  pub dictionaryPatternKeeps : (k : ℕ) (out : List ℕ) → Keeps (dictionaryPatternOf mostPorts k out) (dictionaryPatternBytes mostPorts k out) out
+  pub dictionaryNext : (p : List ℕ) → Refuses (1 ∷ 3 ∷ 4 ∷ 5 ∷ []) (dictionaryNextOf mostPorts p)
+  pub dictionaryNextKeeps : (p : List ℕ) → Keeps (dictionaryNextOf mostPorts p) (dictionaryNextBytes mostPorts p) p
+  pub numberToRank : (n k : ℕ) → Refuses (1 ∷ 6 ∷ []) (numberToRankOf mostPorts n k)
+  pub rankToNumber : (n r : ℕ) → Refuses (1 ∷ 6 ∷ []) (rankToNumberOf mostPorts n r)
   -- ---- the panel
   pub portAt : (p : List ℕ) (j : ℕ) → Refuses (1 ∷ 3 ∷ 4 ∷ 17 ∷ []) (portOf mostPorts p j)
   pub jackOfPort : (p : List ℕ) (v : ℕ) → Refuses (1 ∷ 3 ∷ 4 ∷ 17 ∷ []) (jackOf mostPorts p v)

@@ -14,6 +14,11 @@ use Rattle.patterns.proofs.ranking.unrank.Reads as unrank
 use Rattle.patterns.proofs.neighbours.next.Reads as next
 use Rattle.patterns.proofs.neighbours.previous.Reads as previous
 use Rattle.patterns.proofs.counting.step.Reads as step
+use Rattle.dictionary.proofs.numbering.number.Reads as number
+use Rattle.dictionary.proofs.numbering.numbered.Reads as numbered
+use Rattle.dictionary.proofs.onward.next.Reads as next-in-order
+use Rattle.dictionary.proofs.translation.to_rank.Reads as to-rank
+use Rattle.dictionary.proofs.translation.to_number.Reads as to-number
 use Rattle.panel.proofs.lookups.port_at.Reads as port-at
 use Rattle.panel.proofs.lookups.jack_of.Reads as jack-of
 use Rattle.panel.proofs.lines.carry.Reads as carry
@@ -48,6 +53,11 @@ use Rattle.face_patterns.proofs.jidrofex_unrank.Reads as face-unrank
 use Rattle.face_patterns.proofs.jidrofex_next.Reads as face-next
 use Rattle.face_patterns.proofs.jidrofex_previous.Reads as face-previous
 use Rattle.face_patterns.proofs.jidrofex_step.Reads as face-step
+use Rattle.face_dictionary.proofs.jidrofex_dictionary_number.Reads as face-dictionary-number
+use Rattle.face_dictionary.proofs.jidrofex_dictionary_pattern.Reads as face-dictionary-pattern
+use Rattle.face_dictionary.proofs.jidrofex_dictionary_next.Reads as face-dictionary-next
+use Rattle.face_dictionary.proofs.jidrofex_number_to_rank.Reads as face-number-to-rank
+use Rattle.face_dictionary.proofs.jidrofex_rank_to_number.Reads as face-rank-to-number
 use Rattle.face_panel.proofs.jidrofex_port_at.Reads as face-port-at
 use Rattle.face_panel.proofs.jidrofex_jack_of.Reads as face-jack-of
 use Rattle.face_panel.proofs.jidrofex_carry.Reads as face-carry
@@ -83,6 +93,12 @@ pub record EachCallOne : Type 0 where
   pub next : OneWith next.Learnt (λ κs (p, _). now p)
   pub previous : OneWith previous.Learnt (λ κs (p, _). now p)
   pub step : OneAnswer step.Learnt
+  -- ---- dictionary numbers
+  pub number : OneAnswer number.Learnt
+  pub numbered : OneWith numbered.Learnt (λ κs (_, (out, _)). now out)
+  pub nextInOrder : OneWith next-in-order.Learnt (λ κs (p, _). now p)
+  pub toRank : OneAnswer to-rank.Learnt
+  pub toNumber : OneAnswer to-number.Learnt
   -- ---- panel
   pub portAt : OneAnswer port-at.Learnt
   pub jackOf : OneAnswer jack-of.Learnt
@@ -118,7 +134,7 @@ pub record EachCallOne : Type 0 where
   pub faceVersion : One face-version.Learnt (λ κs r (answer, _). result r (now answer) [])
   pub faceRefusalWords : One face-refusal-words.Learnt (λ κs r (_, (buf, (answer, _))). result r (now answer) (now buf ∷ []))
   pub faceRefusalSentence : One face-refusal-sentence.Learnt (λ κs r (_, (_, (buf, (answer, _)))). result r (now answer) (now buf ∷ []))
-  -- ---- patterns, the panel, order lines, plans, the campaign and lines in bulk
+  -- ---- patterns, dictionary numbers, the panel, order lines, plans, the campaign and lines in bulk
   pub faceCheck : One face-check.Learnt (λ κs r (_, (answer, _)). result r (now answer) [])
   pub faceCheckPanel : One face-check-panel.Learnt (λ κs r (_, (answer, _)). result r (now answer) [])
   pub faceCount : One face-count.Learnt (λ κs r (_, (answer, _)). result r (now answer) [])
@@ -127,6 +143,11 @@ pub record EachCallOne : Type 0 where
   pub faceNext : One face-next.Learnt (λ κs r (p, (answer, _)). result r (now answer) (now p ∷ []))
   pub facePrevious : One face-previous.Learnt (λ κs r (p, (answer, _)). result r (now answer) (now p ∷ []))
   pub faceStep : One face-step.Learnt (λ κs r (_, (_, (_, (answer, _)))). result r (now answer) [])
+  pub faceDictionaryNumber : One face-dictionary-number.Learnt (λ κs r (_, (answer, _)). result r (now answer) [])
+  pub faceDictionaryPattern : One face-dictionary-pattern.Learnt (λ κs r (_, (p, (answer, _))). result r (now answer) (now p ∷ []))
+  pub faceDictionaryNext : One face-dictionary-next.Learnt (λ κs r (p, (answer, _)). result r (now answer) (now p ∷ []))
+  pub faceNumberToRank : One face-number-to-rank.Learnt (λ κs r (_, (_, (answer, _))). result r (now answer) [])
+  pub faceRankToNumber : One face-rank-to-number.Learnt (λ κs r (_, (_, (answer, _))). result r (now answer) [])
   pub facePortAt : One face-port-at.Learnt (λ κs r (_, (_, (answer, _))). result r (now answer) [])
   pub faceJackOf : One face-jack-of.Learnt (λ κs r (_, (_, (answer, _))). result r (now answer) [])
   pub faceCarry : One face-carry.Learnt (λ κs r (panel, (_, (answer, _))). result r (now answer) (now panel ∷ []))

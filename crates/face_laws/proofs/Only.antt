@@ -11,6 +11,8 @@ use Rattle.words.specs.Told.{Told}
 use Rattle.promise.specs.Campaign.{request, report, reportOn}
 use Rattle.pattern_check.specs.Calls.{checkAs}
 use Rattle.patterns.specs.Calls.{countOf, rankOf, unrankOf, unrankBytes, besideOf, besideBytes, stepOf}
+use Rattle.dictionary.specs.Calls.{dictionaryNumberOf, dictionaryPatternOf, dictionaryPatternBytes, dictionaryNextOf, dictionaryNextBytes}
+use Rattle.dictionary.specs.Calls.{numberToRankOf, rankToNumberOf}
 use Rattle.panel.specs.Calls.{portOf, jackOf, carryOf, carryBytes}
 use Rattle.line_format.specs.Calls.{writeOf, writeBytes}
 use Rattle.line_format.specs.Reading.{readOf}
@@ -64,6 +66,23 @@ only-beside back p = only _ _ _
 
 pub only-step : (ports rank : ℕ) (k : ℤ) → Only oneNumber (stepOf mostPorts ports rank k) []
 only-step ports rank k = only _ _ _
+
+-- ---- dictionary numbers
+
+pub only-dictionary-number : (p : List ℕ) → Only oneNumber (dictionaryNumberOf mostPorts p) []
+only-dictionary-number p = only _ _ _
+
+pub only-dictionary-pattern : (number : ℕ) (p : List ℕ) → Only nothing (dictionaryPatternOf mostPorts number p) (dictionaryPatternBytes mostPorts number p ∷ [])
+only-dictionary-pattern number p = only _ _ _
+
+pub only-dictionary-next : (p : List ℕ) → Only nothing (dictionaryNextOf mostPorts p) (dictionaryNextBytes mostPorts p ∷ [])
+only-dictionary-next p = only _ _ _
+
+pub only-number-to-rank : (ports number : ℕ) → Only oneNumber (numberToRankOf mostPorts ports number) []
+only-number-to-rank ports number = only _ _ _
+
+pub only-rank-to-number : (ports rank : ℕ) → Only oneNumber (rankToNumberOf mostPorts ports rank) []
+only-rank-to-number ports rank = only _ _ _
 
 -- ---- a panel
 
