@@ -24,14 +24,14 @@ unfolding listedOf
 returns-2 c =
     let n = c .before .before in
     let e = n .before in
-    rw (c .nowhere2 .ensures) (sym (unlisted _ _ _ _ (e .before .in-size .ensures) (e .if1 .left) (n .count-of .ensures) (c .before .if2 .taken)))
+    rw (c .nowhere2 .ensures) (sym (unlisted _ _ _ _ (e .before .in-size .ensures) (e .if1 .left) (n .count-of .ensures) (omega (arith, c .before .if2 .taken))))
 
 returns-3 : tie.Need-returns-3
 unfolding listedOf
 returns-3 c =
     let n = c .before in
     let e = n .before in
-    sym (listed _ _ _ _ (e .before .in-size .ensures) (e .if1 .left) (n .count-of .ensures) (c .if2 .left))
+    sym (listed _ _ _ _ (e .before .in-size .ensures) (e .if1 .left) (n .count-of .ensures) (omega (arith, c .if2 .left)))
 
 pub listed-spec : {M : Type 1} → statement M
 listed-spec =

@@ -16,6 +16,9 @@ Inv-loop m row₀ k₀ row k = (k ≤ m) × Row k row
 abbrev μ-loop : tie.MeasureT-loop
 μ-loop m row₀ k₀ row k = m - k
 
+loop-holds : tie.Need-loop-holds Inv-loop μ-loop
+loop-holds c = (search needs, row-none _ refl refl)
+
 loop-again : tie.Need-loop-again Inv-loop μ-loop
 loop-again c = (search needs, rw add-one (c .add-jack .ensures))
 
@@ -32,7 +35,7 @@ row-of-spec =
     Inv-loop
     μ-loop
     (λ c. search needs)
-    (λ c. (search needs, row-none _ refl refl))
+    loop-holds
     (λ c κs. (omega (arith, c .before .before .before .pre), c .before .before .loop .inv .1))
     (λ c. search needs)
     (λ c. search needs)
