@@ -1,10 +1,9 @@
 -- What the calls tell and leave, by their definitions: a refusal is passed on whole, and leaves the slice; what is accepted is what it says.
 -- Assumes nothing.
 use mathlib.Core.Path.{_≡_, refl, sym, ap, _∙_}
-use mathlib.Core.Bool.{Bool, true, false, cond}
+use mathlib.Core.Bool.{Bool, true, false}
 use mathlib.Core.List.{List}
 use Prim.Native.Nat.{ℕ, _≤_, _<_}
-use native.Mathlib.Omega.{arith}
 use lib.Dec.{ltb}
 use lib.ListN.{length, take, replicate}
 use lib.Seq.{length-take-le}
@@ -20,7 +19,7 @@ use Rattle.listing.proofs.Ranks.{at-derangement}
 use Rattle.listing_dictionary.specs.Dictionary.{inDictionary}
 use Rattle.listing_dictionary.specs.Number.{number}
 use Rattle.listing_dictionary.proofs.Dictionary.{dictionary-derangement, number-count}
-use Rattle.words.specs.Told.{Spot, Told, accepted, refused}
+use Rattle.words.specs.Told.{Spot, accepted, refused}
 use Rattle.words.proofs.Told.{not-both}
 use Rattle.pattern_check.specs.Calls.{inSize, sized, checkOf}
 use Rattle.pattern_check.proofs.Calls.{size-within}
@@ -28,7 +27,7 @@ use Rattle.pattern_check.proofs.Accepted.{Pattern, accepted-pattern, pattern-ac
 use Rattle.patterns.specs.Calls.{ranked, rankOf}
 use Rattle.patterns.proofs.Accepted.{rank-accepted}
 use Rattle.dictionary.specs.Calls.{dictionaryNumberOf, listedOf, dictionaryPatternOf, dictionaryPatternBytes, dictionaryNextOf, dictionaryNextBytes}
-use Rattle.dictionary.specs.Calls.{numberToRankOf, rankToNumberOf}
+use Rattle.dictionary.specs.Calls.{numberToRankOf, rankToNumberOf, translatedOf}
 
 -- ---- a pattern
 
@@ -59,14 +58,11 @@ module _ (most : ℕ) (p : List ℕ) where
 -- ---- a number or a rank
 
 module _ (most n k : ℕ) where
-  -- what is refused is passed on, by each of the calls
-  pub rank-refused : (j : ℕ) (s : Spot) → refused j s ≡ listedOf most n k → refused j s ≡ numberToRankOf most n k
-  unfolding numberToRankOf
-  rank-refused j s e = rw (← e)
-
-  pub back-refused : (j : ℕ) (s : Spot) → refused j s ≡ listedOf most n k → refused j s ≡ rankToNumberOf most n k
-  unfolding rankToNumberOf
-  back-refused j s e = rw (← e)
+  -- what is refused is passed on, either way
+  pub translated-refused : (ranked : Bool) (j : ℕ) (s : Spot) → refused j s ≡ listedOf most n k → refused j s ≡ translatedOf most ranked n k
+  unfolding numberToRankOf rankToNumberOf
+  translated-refused true j s e = rw (← e)
+  translated-refused false j s e = rw (← e)
 
   -- what is accepted has 2 to most ports, and is below the count
   pub listed-parts : accepted tt ≡ listedOf most n k → (2 ≤ n) × (n ≤ most) × (k < count n)

@@ -2,6 +2,7 @@
 -- The most ports of the device is a parameter.
 -- Assumes nothing.
 use Prim.Native.Nat.{ℕ}
+use mathlib.Core.Bool.{Bool, true, false}
 use mathlib.Core.List.{List}
 use lib.ListN.{length}
 use Rattle.listing.specs.Listing.{at}
@@ -41,3 +42,8 @@ numberToRankOf most n k = then (listedOf most n k) (λ ok. accepted (rank n (inD
 
 unfoldable pub rankToNumberOf : ℕ → ℕ → ℕ → Told ℕ
 rankToNumberOf most n r = then (listedOf most n r) (λ ok. accepted (number n (at n r)))
+
+-- the one or the other: of a rank its number, of a number its rank
+abbrev pub translatedOf : ℕ → Bool → ℕ → ℕ → Told ℕ
+translatedOf most true n k = rankToNumberOf most n k
+translatedOf most false n k = numberToRankOf most n k

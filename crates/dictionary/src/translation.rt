@@ -8,54 +8,50 @@ use words::Numbered;
 use words::Outcome;
 use words::limits::LONGEST;
 ghost use mathlib.Core.Path.{_≡_};
+ghost use mathlib.Core.Bool.{true, false};
 ghost use lib.ListN.{length};
 ghost use Rattle.words.specs.Meaning.{numberedTold};
 ghost use Rattle.words.specs.Told.{accepted};
 ghost use Rattle.listing.specs.Limits.{mostPorts};
-ghost use Rattle.dictionary.specs.Calls.{listedOf, numberToRankOf, rankToNumberOf};
+ghost use Rattle.dictionary.specs.Calls.{listedOf, numberToRankOf, rankToNumberOf, translatedOf};
 
-// The rank of the pattern of a number, in room for it.
-fn rank_numbered(number: u64, room: &mut [u8]) -> Numbered
-    requires { ⌜ accepted tt ≡ listedOf mostPorts (length (now room)) number ⌝ }
-    ensures { λ r. ⌜ numberedTold r ≡ numberToRankOf mostPorts (length (now (room .entry))) number ⌝ }
+// The number of the pattern of a rank, or the rank of the pattern of a number, in room for the pattern.
+fn translate_in(ranked: bool, k: u64, room: &mut [u8]) -> Numbered
+    requires { ⌜ accepted tt ≡ listedOf mostPorts (length (now room)) k ⌝ }
+    ensures { λ r. ⌜ numberedTold r ≡ translatedOf mostPorts ranked (length (now (room .entry))) k ⌝ }
 {
-    put_numbered(number, room);
+    if ranked {
+        put_pattern(k, room);
+        return Numbered::Is(number_of(room));
+    }
+    put_numbered(k, room);
     rank(room)
+}
+
+// The number of a rank, or the rank of a number.
+fn translate(ranked: bool, ports: u8, k: u64) -> Numbered
+    ensures { λ r. ⌜ numberedTold r ≡ translatedOf mostPorts ranked ports k ⌝ }
+{
+    let n = ports as usize;
+    match listed(n, k) {
+        Outcome::Refused(f) => Numbered::Refused(f),
+        Outcome::Accepted => {
+            let mut room = [0u8; LONGEST];
+            translate_in(ranked, k, &mut room[..n])
+        }
+    }
 }
 
 // The rank of the pattern that has a dictionary number.
 pub fn to_rank(ports: u8, number: u64) -> Numbered
     ensures { λ r. ⌜ numberedTold r ≡ numberToRankOf mostPorts ports number ⌝ }
 {
-    let n = ports as usize;
-    match listed(n, number) {
-        Outcome::Refused(f) => Numbered::Refused(f),
-        Outcome::Accepted => {
-            let mut room = [0u8; LONGEST];
-            rank_numbered(number, &mut room[..n])
-        }
-    }
-}
-
-// The number of the pattern of a rank, in room for it.
-fn number_ranked(rank: u64, room: &mut [u8]) -> u64
-    requires { ⌜ accepted tt ≡ listedOf mostPorts (length (now room)) rank ⌝ }
-    ensures { λ r. ⌜ accepted r ≡ rankToNumberOf mostPorts (length (now (room .entry))) rank ⌝ }
-{
-    put_pattern(rank, room);
-    number_of(room)
+    translate(false, ports, number)
 }
 
 // The dictionary number of the pattern that has a rank.
 pub fn to_number(ports: u8, rank: u64) -> Numbered
     ensures { λ r. ⌜ numberedTold r ≡ rankToNumberOf mostPorts ports rank ⌝ }
 {
-    let n = ports as usize;
-    match listed(n, rank) {
-        Outcome::Refused(f) => Numbered::Refused(f),
-        Outcome::Accepted => {
-            let mut room = [0u8; LONGEST];
-            Numbered::Is(number_ranked(rank, &mut room[..n]))
-        }
-    }
+    translate(true, ports, rank)
 }

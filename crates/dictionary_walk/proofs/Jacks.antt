@@ -1,24 +1,23 @@
 -- The walk jack by jack: where it begins, what is free at the next jack, and where it stands when that jack has its port; the number so far, and the pattern so
 -- far. Of n ports the first i jacks have theirs, and m + 1 jacks are left.
 -- Assumes nothing.
-use mathlib.Core.Path.{_≡_, refl, sym, ap, _∙_, subst}
-use mathlib.Core.Logic.{_≢_, inl, inr}
+use mathlib.Core.Path.{_≡_, refl, sym, ap, _∙_}
 use mathlib.Core.Bool.{Bool, true, false, not, cond, true≢false}
-use mathlib.Core.List.{List, [], _∷_, _++_}
+use mathlib.Core.List.{List}
 use Prim.Native.Nat.{ℕ, zero, suc, _+_, _-_, _≤_, _<_}
 use native.Mathlib.Numerals.{add-one}
 use native.Mathlib.Omega.{arith}
-use lib.ListN.{length, getD, set, take, drop, replicate, length-set}
+use lib.ListN.{getD, set, replicate, length-set}
 use borrow.Author.Tests.{lt-ltb, le-ltb}
 use lib.Dec.{ltb}
 use Rattle.listing.specs.Numbers.{before}
 use Rattle.listing.specs.Limits.{mostPorts}
 use Rattle.listing.proofs.Numbers.{either, test, less-one}
-use Rattle.listing_dictionary.specs.Free.{ports, without, later}
+use Rattle.listing_dictionary.specs.Free.{without, later}
 use Rattle.listing_dictionary.specs.Completions.{completions}
 use Rattle.listing_dictionary.specs.Number.{worth, share}
 use Rattle.listing_dictionary.proofs.Lists.{Has}
-use Rattle.listing_dictionary.proofs.Free.{Left, left-without, later-without, later-bound, own-port?}
+use Rattle.listing_dictionary.proofs.Free.{left-without, later-without, later-bound, own-port?}
 use Rattle.listing_dictionary.proofs.Patterns.{left-ports, later-ports}
 use Rattle.dictionary_walk.specs.Rows.{Row}
 use Rattle.dictionary_walk.specs.Free.{frees}

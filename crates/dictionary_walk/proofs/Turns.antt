@@ -1,11 +1,10 @@
 -- The number so far and the pattern so far, jack by jack: `at` of n jacks have their ports, and the ports of `free` are left. What the next jack adds, and what
 -- there is when all have theirs.
 -- Assumes nothing.
-use mathlib.Core.Path.{_≡_, sym, ap, ap₂, _∙_, subst}
+use mathlib.Core.Path.{_≡_, sym, ap, _∙_, subst}
 use mathlib.Core.Bool.{Bool}
 use mathlib.Core.List.{List, [], _∷_, _++_, append-nil}
-use Prim.Native.Nat.{ℕ, zero, suc, _+_, _-_, _≤_, _<_}
-use native.Mathlib.Numerals.{add-one}
+use Prim.Native.Nat.{ℕ, suc, _+_, _-_, _≤_, _<_}
 use native.Mathlib.Omega.{arith}
 use lib.ListN.{length, getD, set, take, drop, length-drop}
 use lib.Seq.{drop-cons, drop-length, take-suc-set, take-all, append-snoc}
@@ -50,7 +49,7 @@ module _ (n : ℕ) (p : List ℕ) (at : ℕ) (free : List ℕ) (sum : ℕ) (long
   counted-port low = fits-next low .0
 
   -- what it passes over is added, and the sum stays below the number
-  pub counted-turn : (x : ℕ) → at < n → x ≡ passed (share (n - suc at) at free) free (getD p at 0)
+  counted-turn : (x : ℕ) → at < n → x ≡ passed (share (n - suc at) at free) free (getD p at 0)
       → Counted n p (suc at) (without (getD p at 0) free) (sum + x) × (sum + x ≤ number n p)
   counted-turn x low e =
       let rest = drop (suc at) p in

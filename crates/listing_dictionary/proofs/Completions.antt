@@ -1,20 +1,19 @@
 -- The rules of the completions: by the port that the next jack gets.
 -- Assumes nothing.
 use mathlib.Core.Path.{_≡_, refl, sym, ap, _∙_}
-use Prim.Native.Nat.{ℕ, zero, suc, _+_, _*_, _-_, _≤_, _<_}
+use Prim.Native.Nat.{ℕ, zero, suc, _+_, _*_, _-_, _≤_}
 use native.Mathlib.Nat.{zero-mul, le-refl, le-trans}
 use native.Mathlib.Decide.{le-ind}
 use native.Mathlib.Omega.{arith}
 use Rattle.listing.specs.Numbers.{before}
 use Rattle.listing.specs.Count.{count}
-use Rattle.listing.proofs.Counts.{count-pos}
 use Rattle.listing_dictionary.specs.Completions.{ways, completions}
 
-pub ways-more : (k e : ℕ) → ways k (suc e) ≡ ways (suc k) e + ways k e
+ways-more : (k e : ℕ) → ways k (suc e) ≡ ways (suc k) e + ways k e
 unfolding ways
 ways-more k e = refl
 
-pub ways-none : (k : ℕ) → ways k 0 ≡ count k
+ways-none : (k : ℕ) → ways k 0 ≡ count k
 unfolding ways
 ways-none k = refl
 
@@ -24,7 +23,7 @@ rest-from-own : (k e : ℕ) → ways (suc k) e ≡ k * ways (before k) (suc e) +
 rest-from-own k e own = omega (arith, ways-more k e)
 
 -- The next jack has its own port left, and k others have theirs: it gets the port of one of these k jacks, or one of the e ports that have no jack left
-pub next-own : (e k : ℕ) → ways (suc k) e ≡ k * ways (before k) (suc e) + e * ways k e
+next-own : (e k : ℕ) → ways (suc k) e ≡ k * ways (before k) (suc e) + e * ways k e
 unfolding ways count
 next-own zero zero = refl
 next-own zero (suc k) = omega (arith)
@@ -32,12 +31,12 @@ next-own (suc e) zero = omega (arith, next-own e 1, next-own e 0)
 next-own (suc e) (suc k) = omega (arith, next-own e (suc (suc k)), next-own e (suc k))
 
 -- the next jack has not its own port left, and k jacks have
-pub next-rest : (e k : ℕ) → ways k (suc e) ≡ k * ways (before k) (suc e) + suc e * ways k e
+next-rest : (e k : ℕ) → ways k (suc e) ≡ k * ways (before k) (suc e) + suc e * ways k e
 next-rest e k = rest-from-own k e (next-own e k)
 
 -- ---- by the number of jacks left
 
-pub completions-ways : (k e m : ℕ) → k + e ≡ m → completions m k ≡ ways k e
+completions-ways : (k e m : ℕ) → k + e ≡ m → completions m k ≡ ways k e
 unfolding completions
 completions-ways k e m h = let d : m - k ≡ e = omega arith in rw d
 
@@ -74,13 +73,10 @@ unfoldable pub product : ℕ → ℕ
 product zero = 1
 product (suc m) = suc m * product m
 
-pub ways-free : (e : ℕ) → ways 0 e ≡ product e
+ways-free : (e : ℕ) → ways 0 e ≡ product e
 unfolding ways count product
 ways-free zero = refl
 ways-free (suc e) = let rule : ways 0 (suc e) ≡ 0 * ways 0 (suc e) + suc e * ways 0 e = next-rest e 0 in rw (← ways-free e) (omega arith)
-
-pub completions-free : (m : ℕ) → completions m 0 ≡ product m
-completions-free m = completions-ways 0 m m (omega arith) ∙ ways-free m
 
 -- each from its two neighbours: one own port more in the same row, and the row above
 pub completions-row : (m k : ℕ) → k ≤ m → completions (suc m) k ≡ completions (suc m) (suc k) + completions m k
@@ -107,21 +103,3 @@ grows x = omega arith
 
 pub product-grows : (m l : ℕ) → m ≤ l → product m ≤ product l
 product-grows m l h = le-ind (λ (x : ℕ). product m ≤ product x) (le-refl (product m)) (λ x a b. le-trans b (grows x)) l h
-
--- there is a way, except for one jack that is left with its own port
-ways-pos : (k e : ℕ) → ((k ≡ 1) × (e ≡ 0) → ⊥) → 0 < ways k e
-unfolding ways count
-ways-pos zero zero h = omega arith
-ways-pos (suc zero) zero h = absurd (h (refl, refl))
-ways-pos (suc (suc k)) zero h = count-pos k
-ways-pos zero (suc e) h = omega (arith, ways-pos 0 e (λ c. omega (arith, c .0)))
-ways-pos (suc k) (suc e) h = omega (arith, ways-pos (suc (suc k)) e (λ c. omega (arith, c .0)))
-
-pub completions-pos : (m k : ℕ) → k ≤ m → ((m ≡ 1) × (k ≡ 1) → ⊥) → 0 < completions m k
-completions-pos m k h other =
-    rw (completions-ways k (m - k) m (omega arith)) (ways-pos k (m - k) (λ c. other (omega (arith, c .0, c .1), c .0)))
-
--- and there none
-pub completions-stuck : completions 1 1 ≡ 0
-unfolding completions ways count
-completions-stuck = refl

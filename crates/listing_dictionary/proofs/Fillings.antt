@@ -98,7 +98,7 @@ unfolding beginning
 at-beginning j y s rest ne h = rw (ne-eqb y j ne) (getD-map (λ (q : List ℕ). y ∷ q) rest s [] [] h)
 
 -- with no jack left there is one way
-pub completions-none : (i : ℕ) (free : List ℕ) → Left i 0 free → completions 0 (later i free) ≡ 1
+completions-none : (i : ℕ) (free : List ℕ) → Left i 0 free → completions 0 (later i free) ≡ 1
 completions-none i free L = rw (no-length free (L .long), later-none i) one-way
 
 -- the fillings that begin with y
@@ -215,7 +215,7 @@ numbered-at m i k free L h =
 -- ---- number and order
 
 -- an earlier filling has a smaller number
-pub number-rises : (m i : ℕ) (free p q : List ℕ) → Left i m free → Fills m i free p → Fills m i free q
+number-rises : (m i : ℕ) (free p q : List ℕ) → Left i m free → Fills m i free p → Fills m i free q
     → Precedes p q → numberFrom i free p < numberFrom i free q
 number-rises m i free [] q L F G h = absurd h
 number-rises m i free (x ∷ p) [] L F G h = absurd h
@@ -240,7 +240,7 @@ number-rises (suc m) i free (x ∷ p) (y ∷ q) L F G (inr h) =
     rw (number-cons m i x free p long, number-cons m i y free q long′, ← h .0) (omega arith)
 
 -- a smaller number is that of an earlier filling
-pub rises-number : (m i : ℕ) (free p q : List ℕ) → Left i m free → Fills m i free p → Fills m i free q
+rises-number : (m i : ℕ) (free p q : List ℕ) → Left i m free → Fills m i free p → Fills m i free q
     → numberFrom i free p < numberFrom i free q → Precedes p q
 rises-number m i free p q L F G l =
     either (precedes-total p q (F .0 ∙ sym (G .0)))

@@ -20,7 +20,7 @@ abbrev pub Above : ℕ → List ℕ → Type 0
 Above a [] = Unit {0}
 Above a (x ∷ xs) = (a < x) × Above x xs
 
-pub above-lower : (a b : ℕ) (ys : List ℕ) → a ≤ b → Above b ys → Above a ys
+above-lower : (a b : ℕ) (ys : List ℕ) → a ≤ b → Above b ys → Above a ys
 above-lower a b [] h r = tt
 above-lower a b (y ∷ ys) h r = (omega (arith, r .0), r .1)
 
@@ -45,7 +45,7 @@ pub has-on : (x y : ℕ) (ys : List ℕ) → y ≢ x → Has x (y ∷ ys) → Ha
 has-on x y ys ne (inl e) = absurd (ne (sym e))
 has-on x y ys ne (inr h) = h
 
-pub length-without : (x : ℕ) (ys : List ℕ) → Has x ys → suc (length (without x ys)) ≡ length ys
+length-without : (x : ℕ) (ys : List ℕ) → Has x ys → suc (length (without x ys)) ≡ length ys
 length-without x [] h = absurd h
 length-without x (y ∷ ys) h =
     either (same? y x)

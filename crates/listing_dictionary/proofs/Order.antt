@@ -13,12 +13,12 @@ use Rattle.listing_dictionary.proofs.Lists.{Has, has-place, place-has}
 -- ---- strict and total
 
 -- no panel precedes itself
-pub not-itself : (p : List ℕ) → Precedes p p → ⊥
+not-itself : (p : List ℕ) → Precedes p p → ⊥
 not-itself [] h = h
 not-itself (x ∷ p) (inl h) = omega arith
 not-itself (x ∷ p) (inr h) = not-itself p (h .1)
 
-pub precedes-trans : (p q s : List ℕ) → Precedes p q → Precedes q s → Precedes p s
+precedes-trans : (p q s : List ℕ) → Precedes p q → Precedes q s → Precedes p s
 precedes-trans [] q s h g = absurd h
 precedes-trans (x ∷ p) [] s h g = absurd h
 precedes-trans (x ∷ p) (y ∷ q) [] h g = absurd g

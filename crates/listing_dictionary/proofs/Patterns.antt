@@ -16,22 +16,22 @@ use Rattle.listing_dictionary.proofs.Fillings.{Fits, Fills}
 
 -- ---- the ports 1..n
 
-pub length-ports : (i m : ℕ) → length (ports i m) ≡ m
+length-ports : (i m : ℕ) → length (ports i m) ≡ m
 unfolding ports
 length-ports i zero = refl
 length-ports i (suc m) = ap suc (length-ports (suc i) m)
 
-pub above-ports : (i m : ℕ) → Above i (ports i m)
+above-ports : (i m : ℕ) → Above i (ports i m)
 unfolding ports
 above-ports i zero = tt
 above-ports i (suc m) = (omega arith, above-ports (suc i) m)
 
-pub has-ports : (i m x : ℕ) → i < x → x ≤ i + m → Has x (ports i m)
+has-ports : (i m x : ℕ) → i < x → x ≤ i + m → Has x (ports i m)
 unfolding ports
 has-ports i zero x a b = absurd (omega arith)
 has-ports i (suc m) x a b = either (same? x (suc i)) (λ e. inl e) (λ ne. inr (has-ports (suc i) m x (omega arith) (omega arith)))
 
-pub ports-has : (i m x : ℕ) → Has x (ports i m) → (i < x) × (x ≤ i + m)
+ports-has : (i m x : ℕ) → Has x (ports i m) → (i < x) × (x ≤ i + m)
 unfolding ports
 ports-has i zero x h = absurd h
 ports-has i (suc m) x (inl e) = (omega arith, omega arith)

@@ -1,7 +1,7 @@
 -- `dictionary::onward::next` tells the check's refusal, and leaves the pattern of the next number of a pattern that the check accepted.
 -- Assumes nothing.
 use mathlib.Core.Path.{_≡_, sym, ap, _∙_}
-use Prim.Native.Nat.{ℕ, _<_}
+use Prim.Native.Nat.{_<_}
 use native.Mathlib.Omega.{arith}
 use lib.ListN.{length}
 use borrow.Author.Needs.{needs}

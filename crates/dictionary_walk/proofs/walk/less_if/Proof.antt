@@ -1,6 +1,5 @@
 -- `dictionary_walk::walk::less_if` meets its contract: the number before, if so.
 -- Assumes nothing.
-use native.Mathlib.Omega.{arith}
 use Rattle.listing.proofs.Numbers.{less-one}
 use Rattle.dictionary_walk.proofs.walk.less_if.Statement.{statement}
 use Rattle.dictionary_walk.proofs.walk.less_if.Tie as tie

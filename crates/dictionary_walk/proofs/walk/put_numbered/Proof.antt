@@ -1,7 +1,7 @@
 -- `dictionary_walk::walk::put_numbered` meets its contract: each turn gives one jack its port. The loop's invariant: the arrays are as the jacks so far leave them,
 -- and the ports so far with those that the rest of the number makes are the pattern of the number.
 -- Assumes nothing.
-use mathlib.Core.Path.{_≡_, refl, sym, _∙_, subst}
+use mathlib.Core.Path.{_≡_, refl, sym, subst}
 use mathlib.Core.List.{List}
 use Prim.Native.Nat.{ℕ, _-_, _≤_}
 use native.Mathlib.Numerals.{add-one}
