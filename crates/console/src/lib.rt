@@ -2,8 +2,10 @@
 // 3, in lines that the command's wrapper reads (commands/way.sh). Standard error gets one line, and only where something cannot be read or written.
 use line_refusal::refusal_text;
 use words::Place;
+use words::Reason;
 use words::Refusal;
 use words::refusals::earlier_number;
+use words::refusals::place_number;
 ghost use Rattle.io.specs.Counts.{Counts};
 
 // The descriptor on which a program tells its outcome.
@@ -76,15 +78,24 @@ fn tell_earlier(place: Place) {
     tell_number(b"earlier=", earlier_number(place) as u64);
 }
 
-// A refusal's two lines, on standard output and as the outcome, which has its second number too.
-pub fn refused(name: &[u8], f: Refusal) {
-    let place = f.place;
-    let text = refusal_text(f);
+// A refusal's two lines, with its place, on standard output and as the outcome; whether they could be written.
+pub fn refused_at(name: &[u8], reason: Reason, place: u64) -> bool {
+    let text = refusal_text(reason, place);
     let bytes = text.bytes;
     let n = text.len;
     let lines = &bytes[..n];
     if written(name, lines) {
         tell(lines);
+        return true;
+    }
+    false
+}
+
+// A refusal at its own place, with its second number.
+pub fn refused(name: &[u8], f: Refusal) {
+    let reason = f.reason;
+    let place = f.place;
+    if refused_at(name, reason, place_number(place) as u64) {
         tell_earlier(place);
     }
 }

@@ -1,3 +1,4 @@
 pub mod Cutting
+pub mod Back
 pub mod Places
 pub mod Contracts

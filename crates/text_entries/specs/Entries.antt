@@ -1,26 +1,44 @@
--- A pattern as one text: its entries in order of the jacks, with commas between them. What a text is read as, and its refusals in their order: 8 where an
--- entry is no number as plans have them, then 1 where there are more entries than the most ports.
+-- A pattern as one text: its entries in order of the jacks, with commas between them. The text of entries; what a text is read as, and its refusals in their
+-- order: 8 where an entry is no number as plans have them, then 1 where there are more entries than the most ports.
 -- Assumes nothing.
 use Prim.Native.Nat.{ℕ}
 use mathlib.Core.Bool.{cond}
-use mathlib.Core.List.{List, [], _∷_, map}
+use mathlib.Core.List.{List, [], _∷_, _++_, map}
 use mathlib.Core.Option.{Option, some, Option·map, bind}
 use lib.Dec.{eqb, leb}
 use lib.ListN.{length}
 use Rattle.listing.specs.Limits.{mostPorts, largest64}
 use Rattle.words.specs.Told.{Told, accepted, refused, nowhere, then, need}
-use Rattle.text_numbers.specs.Decimal.{numberUpTo}
+use Rattle.text_numbers.specs.Decimal.{digitsOf, numberUpTo}
 use Rattle.text_keys.specs.Parts.{comma}
+
+-- ---- a text and the texts between its separators
 
 -- a byte in front of the first of some texts
 abbrev pub onFirst : ℕ → List (List ℕ) → List (List ℕ)
 onFirst b [] = (b ∷ []) ∷ []
 onFirst b (p ∷ ps) = (b ∷ p) ∷ ps
 
--- the texts between the commas of a text: one more than it has commas
-unfoldable pub pieces : List ℕ → List (List ℕ)
-pieces [] = [] ∷ []
-pieces (b ∷ t) = cond (eqb b comma) ([] ∷ pieces t) (onFirst b (pieces t))
+-- the texts between the bytes s of a text, which part it: one more than it has such bytes
+unfoldable pub pieces : ℕ → List ℕ → List (List ℕ)
+pieces s [] = [] ∷ []
+pieces s (b ∷ t) = cond (eqb b s) ([] ∷ pieces s t) (onFirst b (pieces s t))
+
+-- texts that come after another, with a byte s before each
+unfoldable pub following : ℕ → List (List ℕ) → List ℕ
+following s [] = []
+following s (p ∷ ps) = s ∷ (p ++ following s ps)
+
+-- texts put together again, with a byte s between them
+unfoldable pub joined : ℕ → List (List ℕ) → List ℕ
+joined s [] = []
+joined s (p ∷ ps) = p ++ following s ps
+
+-- ---- entries
+
+-- the text of entries: each as plans have numbers, with commas between them
+unfoldable pub entriesText : List ℕ → List ℕ
+entriesText ns = joined comma (map digitsOf ns)
 
 -- the numbers that texts are, where each is one
 unfoldable pub eachNumber : ℕ → List (List ℕ) → Option (List ℕ)
@@ -29,7 +47,7 @@ eachNumber most (p ∷ ps) = bind (numberUpTo most p) (λ n. Option·map (λ ns.
 
 -- the entries that a text is, each up to `most`: nothing between two commas is no number
 unfoldable pub entriesIn : ℕ → List ℕ → Option (List ℕ)
-entriesIn most t = eachNumber most (pieces t)
+entriesIn most t = eachNumber most (pieces comma t)
 
 -- an entry as a byte: one above 255 is held as 0, which is no port either, so it is refused (3) as any other that is none of 1..n
 abbrev pub entryByte : ℕ → ℕ
