@@ -8,8 +8,8 @@ use lib.ListN.{length}
 use Rattle.text_numbers.specs.Decimal.{digitsOf}
 use Rattle.plan_lines.specs.Field.{fieldText}
 use Rattle.naming.specs.Text.{namedKey, ofKey, gapsKey, countsText}
-use Rattle.naming.specs.Putting.{Puts}
-use Rattle.naming.proofs.Putting.{Going, going-first, going-room, going-on}
+use Rattle.line_putting.specs.Putting.{Puts}
+use Rattle.line_putting.proofs.Putting.{Going, going-first, going-room, going-on}
 
 module _ (named of gaps : ℕ) (old : List ℕ) (room : length (countsText named of gaps) ≤ length old) where
   -- their lines

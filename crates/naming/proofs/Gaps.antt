@@ -13,8 +13,9 @@ use Rattle.line_writer.specs.Answers.{Spells}
 use Rattle.line_writer.specs.declared.order_lines.Spelled.{Spelled}
 use Rattle.plan_facts.specs.Facts.{pairText}
 use Rattle.naming.specs.Text.{gapKey, gapText, gapsText}
-use Rattle.naming.specs.Putting.{arcsIn, Puts}
-use Rattle.naming.proofs.Putting.{Going, going-room, going-on, going-over}
+use Rattle.line_putting.specs.Putting.{Puts}
+use Rattle.naming.specs.Arcs.{arcsIn}
+use Rattle.line_putting.proofs.Putting.{Going, going-room, going-on, going-over}
 
 -- a gap's line is spelled from its first rank and how many ranks it has
 pub spells-gap : (s : Spelled) (A : Arc) → Spells s (pairText gapKey (A .first) (A .many)) → Spells s (gapText A)

@@ -1,4 +1,3 @@
-pub mod Putting
 pub mod Counts
 pub mod Gaps
 pub mod Longest

@@ -15,8 +15,9 @@ use Rattle.plan_rules.specs.declared.Plan.{Plan}
 use Rattle.plan_arcs.specs.Arcs.{gapsIn, Tallies}
 use Rattle.plan_arcs.specs.declared.gaps.Tally.{Tally}
 use Rattle.naming.specs.Text.{countsText, gapsText, namedText, mostNamed}
-use Rattle.naming.specs.Putting.{arcsIn, Puts}
-use Rattle.naming.proofs.Putting.{Going, going-first, going-room, going-on, puts-front}
+use Rattle.line_putting.specs.Putting.{Puts}
+use Rattle.naming.specs.Arcs.{arcsIn}
+use Rattle.line_putting.proofs.Putting.{Going, going-first, going-room, going-on, puts-front}
 use Rattle.naming.proofs.Gaps.{arcs-back}
 use Rattle.plan_arcs.proofs.Found.{left-few}
 use Rattle.naming.proofs.Longest.{text-fits}

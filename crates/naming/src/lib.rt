@@ -1,6 +1,5 @@
 // What a plan names, as text: how many ranks, of how many there are, and the gaps that it leaves, in lines of key=value.
-use line_sentence::write_at;
-use line_writer::order_lines::Spelled;
+use line_putting::put_spelled;
 use pattern_steps::counts::count_of;
 use plan_arcs::gaps::GAP_NUMBERS;
 use plan_arcs::gaps::count_named;
@@ -11,35 +10,25 @@ use plan_rules::Plan;
 ghost use mathlib.Core.Path.{_≡_};
 ghost use mathlib.Core.Bool.{true};
 ghost use Prim.Native.Nat.{_+_, _*_, _≤_};
-ghost use lib.ListN.{length, take};
+ghost use lib.ListN.{length};
 ghost use Rattle.text_numbers.specs.Decimal.{digitsOf};
 ghost use Rattle.line_format.specs.Calls.{over};
 ghost use Rattle.plan_lines.specs.Field.{fieldText};
 ghost use Rattle.plan_rules.specs.Planned.{device};
 ghost use Rattle.plan_rules.specs.Rules.{planRuled};
 ghost use Rattle.naming.specs.Text.{countsText, gapText, gapsText, namedText, mostNamed};
-ghost use Rattle.naming.specs.Putting.{arcsIn, Puts};
+ghost use Rattle.line_putting.specs.Putting.{Puts};
+ghost use Rattle.naming.specs.Arcs.{arcsIn};
 
 // No text is longer.
 pub const NAMED_BYTES: usize = 718;
 
-// A line put into a buffer from a place on; the place after it.
-fn put_line(s: Spelled, at: usize, buf: &mut [u8]) -> usize
-    requires { ⌜ (s .len ≤ length (s .bytes)) × (at + s .len ≤ length (now buf)) ⌝ }
-    ensures { λ r. ⌜ Puts at (take (s .len) (s .bytes)) (now (buf .entry)) r (now (buf .exit)) ⌝ }
-{
-    let n = s.len;
-    let bytes = s.bytes;
-    write_at(&bytes[..n], at, buf);
-    at + n
-}
-
-// A number after its key.
+// A line with a number after its key, put into a buffer from a place on; the place after it.
 fn put_number(key: &[u8], n: u64, at: usize, buf: &mut [u8]) -> usize
     requires { ⌜ (length (now key) ≤ 8) × (at + length (fieldText (now key) (digitsOf n)) ≤ length (now buf)) ⌝ }
     ensures { λ r. ⌜ Puts at (fieldText (now (key .entry)) (digitsOf n)) (now (buf .entry)) r (now (buf .exit)) ⌝ }
 {
-    put_line(number_line(key, n), at, buf)
+    put_spelled(number_line(key, n), at, buf)
 }
 
 // A gap: its first rank, and how many ranks it has.
@@ -47,7 +36,7 @@ fn put_gap(first: u64, many: u64, at: usize, buf: &mut [u8]) -> usize
     requires { ⌜ at + length (gapText (record { first = first; many = many })) ≤ length (now buf) ⌝ }
     ensures { λ r. ⌜ Puts at (gapText (record { first = first; many = many })) (now (buf .entry)) r (now (buf .exit)) ⌝ }
 {
-    put_line(pair_line(b"gap=", first, many), at, buf)
+    put_spelled(pair_line(b"gap=", first, many), at, buf)
 }
 
 // A line for each of so many gaps, put into a buffer from a place on; the place after them.

@@ -4,7 +4,7 @@ use borrow.Author.Needs.{needs}
 use Rattle.line_writer.specs.Answers.{Spells}
 use Rattle.naming.specs.Text.{gapText}
 use Rattle.naming.proofs.Gaps.{spells-gap}
-use Rattle.naming.proofs.Putting.{spelled-asked, spelled-puts}
+use Rattle.line_putting.proofs.Putting.{spelled-asked, spelled-puts}
 use Rattle.naming.proofs.put_gap.Statement.{statement}
 use Rattle.naming.proofs.put_gap.Tie as tie
 
@@ -13,8 +13,8 @@ spelt : (c : tie.After-pair-line) → let a = c .before .before .before .args in
     Spells (c .pair-line .result) (gapText (record { first = a .first; many = a .many }))
 spelt c = spells-gap (c .pair-line .result) _ (c .pair-line .ensures)
 
-put-line-requires : tie.Need-put-line-requires
-put-line-requires c κs =
+put-spelled-requires : tie.Need-put-spelled-requires
+put-spelled-requires c κs =
     let l = c .before in
     let s = l .before .before .before in
     spelled-asked (l .pair-line .result) _ (spelt l) (s .args .at) (s .args .buf .now) (s .pre)
@@ -24,7 +24,7 @@ returns c =
     let p = c .before .before in
     let l = p .before .before in
     let s = l .before .before .before in
-    spelled-puts (l .pair-line .result) _ (spelt l) (s .args .at) (s .args .buf .now) _ _ (p .put-line .ensures)
+    spelled-puts (l .pair-line .result) _ (spelt l) (s .args .at) (s .args .buf .now) _ _ (p .put-spelled .ensures)
 
 pub put-gap-spec : {M : Type 1} → statement M
 put-gap-spec =
@@ -32,6 +32,6 @@ put-gap-spec =
     (tie.spec
     (λ c. search needs)
     (λ c κs. search needs)
-    put-line-requires
+    put-spelled-requires
     (λ c. search needs)
     returns)

@@ -5,8 +5,8 @@ use native.Mathlib.Omega.{arith}
 use lib.ListN.{length}
 use borrow.Author.Needs.{needs}
 use Rattle.naming.specs.Text.{gapsText}
-use Rattle.naming.specs.Putting.{arcsIn}
-use Rattle.naming.proofs.Putting.{Going, going-first}
+use Rattle.naming.specs.Arcs.{arcsIn}
+use Rattle.line_putting.proofs.Putting.{Going, going-first}
 use Rattle.naming.proofs.Gaps.{linesFrom, gap-room, gap-on, gaps-over}
 use Rattle.naming.proofs.put_gap_lines.Statement.{statement}
 use Rattle.naming.proofs.put_gap_lines.Tie as tie

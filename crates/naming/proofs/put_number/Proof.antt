@@ -1,12 +1,12 @@
 -- `naming::put_number` puts what is spelled.
 -- Assumes nothing.
 use borrow.Author.Needs.{needs}
-use Rattle.naming.proofs.Putting.{spelled-asked, spelled-puts}
+use Rattle.line_putting.proofs.Putting.{spelled-asked, spelled-puts}
 use Rattle.naming.proofs.put_number.Statement.{statement}
 use Rattle.naming.proofs.put_number.Tie as tie
 
-put-line-requires : tie.Need-put-line-requires
-put-line-requires c κs =
+put-spelled-requires : tie.Need-put-spelled-requires
+put-spelled-requires c κs =
     let l = c .before in
     let s = l .before .before .before in
     spelled-asked (l .number-line .result) _ (l .number-line .ensures) (s .args .at) (s .args .buf .now) (s .pre .1)
@@ -16,13 +16,13 @@ returns c =
     let p = c .before .before in
     let l = p .before .before in
     let s = l .before .before .before in
-    spelled-puts (l .number-line .result) _ (l .number-line .ensures) (s .args .at) (s .args .buf .now) _ _ (p .put-line .ensures)
+    spelled-puts (l .number-line .result) _ (l .number-line .ensures) (s .args .at) (s .args .buf .now) _ _ (p .put-spelled .ensures)
 
 pub put-number-spec : {M : Type 1} → statement M
 put-number-spec =
     tie.close
     (tie.spec
     (λ c κs. search needs)
-    put-line-requires
+    put-spelled-requires
     (λ c. search needs)
     returns)

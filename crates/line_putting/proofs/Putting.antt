@@ -12,7 +12,7 @@ use Rattle.line_writer.specs.Answers.{Spells}
 use Rattle.line_writer.specs.declared.order_lines.Spelled.{Spelled}
 use Rattle.line_writer.proofs.Spelling.{spells-within}
 use Rattle.line_format.proofs.Buffer.{put, put-front, put-rest, put-length}
-use Rattle.naming.specs.Putting.{Puts}
+use Rattle.line_putting.specs.Putting.{Puts}
 
 -- ---- one after the other
 
