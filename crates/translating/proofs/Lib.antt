@@ -1,0 +1,4 @@
+pub mod Names
+pub mod Longest
+pub mod Lines
+pub mod Good
