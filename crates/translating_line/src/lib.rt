@@ -1,0 +1,2 @@
+// One line translated: the pattern that it names is found, and the line of its names is written.
+pub mod writing;
