@@ -1,23 +1,20 @@
 -- What a line of entries is concluded to ask: by its newline, by its entries, and by the rank of the pattern that they are.
 -- Assumes nothing.
-use mathlib.Core.Path.{_≡_, sym, ap, _∙_}
+use mathlib.Core.Path.{_≡_, ap, _∙_}
 use mathlib.Core.Bool.{Bool, true, false, cond}
 use mathlib.Core.List.{List, _∷_}
-use mathlib.Core.Option.{Option, none, some}
+use mathlib.Core.Option.{none, some}
 use Prim.Native.Nat.{ℕ, suc, _+_, _≤_, _<_}
 use native.Mathlib.Omega.{arith}
 use lib.Dec.{leb}
 use lib.IntN.{ℤ, pos}
-use lib.ListN.{length, take, drop, replicate, length-drop, length-map}
+use lib.ListN.{length, take, drop, replicate, length-drop}
 use mir.Syntax.{w64}
 use mir.Val.{toZ, ofZ}
 use borrow.Author.Tests.{le-leb, lt-leb}
-use Rattle.listing.proofs.Numbers.{either, below?}
-use Rattle.listing.specs.Limits.{mostPorts, mostLegs, largest64}
-use Rattle.words.specs.Told.{Spot, accepted, refused, nowhere, then, need}
+use Rattle.listing.specs.Limits.{mostPorts, mostLegs}
+use Rattle.words.specs.Told.{Spot, accepted, refused, nowhere, then}
 use Rattle.words.specs.Meaning.{outcomeTold}
-use Rattle.words.specs.Padded.{padded}
-use Rattle.words.proofs.Padded.{padded-room, padded-front}
 use Rattle.text_keys.specs.Parts.{newline, firstOf}
 use Rattle.words.specs.Signs.{signedLimit}
 use Rattle.words.proofs.WithSign.{stored}
@@ -25,11 +22,12 @@ use Rattle.plan_rules.specs.Planned.{runOf}
 use Rattle.plan_rules.specs.Places.{placed}
 use Rattle.plan_rules.specs.declared.Plan.{Plan}
 use Rattle.patterns.specs.Calls.{rankOf}
-use Rattle.text_entries.specs.Entries.{entriesIn, entryByte, fewEntries, entriesOf}
-use Rattle.text_entries.specs.Pieces.{givenIn, EntriesIs}
+use Rattle.text_entries.specs.Entries.{entriesOf}
+use Rattle.text_entries.specs.Pieces.{EntriesIs}
+use Rattle.text_entries.proofs.Given.{given, given-long, given-front}
 use Rattle.asking.specs.Questions.{oneLine, patternLeg, ofPattern, entriesAsked, patternAsked}
 use Rattle.text_entries.specs.declared.Entries.{Entries}
-use Rattle.words.proofs.Told.{refused-on, accepted-gives}
+use Rattle.words.proofs.Told.{refused-on}
 
 -- ---- the newline
 
@@ -52,24 +50,7 @@ module _ (t : List ℕ) where
 
 -- ---- the entries
 
--- no more are given than there are ports
-few-given : (o : Option (List ℕ)) → length (givenIn (then (need 8 nowhere o) fewEntries)) ≤ mostPorts
-unfolding fewEntries
-few-given none = omega arith
-few-given (some ns) =
-    either (below? mostPorts (length ns))
-    (λ m. rw (lt-leb (length ns) mostPorts m) (omega arith))
-    (λ m. rw (le-leb (length ns) mostPorts m) (omega (arith, length-map ns entryByte)))
-
 module _ (t : List ℕ) (r : Entries) (R : EntriesIs (entriesOf t) r) where
-  -- they are no more than there are ports, and lie in the array
-  pub entries-few : r .len ≤ mostPorts
-  unfolding entriesOf
-  entries-few = omega (arith, R .len, few-given (entriesIn largest64 t))
-
-  pub entries-within : r .len ≤ length (r .bytes)
-  entries-within = omega (arith, R .len, padded-room mostPorts 0 (givenIn (entriesOf t)), ap length (R .bytes))
-
   -- they were refused
   pub not-entries : (k : ℕ) (s : Spot) → refused k s ≡ outcomeTold (r .judged) → refused k s ≡ entriesAsked t
   unfolding entriesAsked
@@ -77,29 +58,21 @@ module _ (t : List ℕ) (r : Entries) (R : EntriesIs (entriesOf t) r) where
 
   -- they were read
   module _ (ok : accepted tt ≡ outcomeTold (r .judged)) where
-    given : (p : List ℕ) × (entriesOf t ≡ accepted p)
-    given = accepted-gives (entriesOf t) (λ p. tt) tt (ok ∙ R .judged)
-
-    long : r .len ≡ length (given .0)
-    long = R .len ∙ ap (λ told. length (givenIn told)) (given .1)
-
-    -- they stand at the front of the array
-    front : take (r .len) (r .bytes) ≡ given .0
-    front =
-        ap (take (r .len)) (R .bytes) ∙ ap (λ told. take (r .len) (padded mostPorts 0 (givenIn told))) (given .1)
-        ∙ padded-front mostPorts (r .len) 0 (given .0) (sym long)
-
     -- their rank is refused
     pub unranked : (k : ℕ) (s : Spot) → refused k s ≡ rankOf mostPorts (take (r .len) (r .bytes)) → refused k s ≡ entriesAsked t
     unfolding entriesAsked
-    unranked k s e = let f : refused k s ≡ rankOf mostPorts (given .0) = e ∙ ap (rankOf mostPorts) front in rw (given .1, ← f)
+    unranked k s e =
+        let g = given t r R ok in
+        let f : refused k s ≡ rankOf mostPorts (g .0) = e ∙ ap (rankOf mostPorts) (given-front t r R ok) in
+        rw (g .1, ← f)
 
     -- they have a rank
     pub ranked : (x : ℕ) → accepted x ≡ rankOf mostPorts (take (r .len) (r .bytes)) → accepted (ofPattern (r .len) x) ≡ entriesAsked t
     unfolding entriesAsked
     ranked x e =
-        let f : accepted x ≡ rankOf mostPorts (given .0) = e ∙ ap (rankOf mostPorts) front in
-        ap (λ n. accepted (ofPattern n x)) long ∙ rw (given .1, ← f)
+        let g = given t r R ok in
+        let f : accepted x ≡ rankOf mostPorts (g .0) = e ∙ ap (rankOf mostPorts) (given-front t r R ok) in
+        ap (λ n. accepted (ofPattern n x)) (given-long t r R ok) ∙ rw (g .1, ← f)
 
 -- ---- the plan
 

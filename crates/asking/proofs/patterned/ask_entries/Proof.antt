@@ -6,7 +6,8 @@ use lib.Seq.{length-take-le}
 use borrow.Author.Needs.{needs}
 use Rattle.words.specs.Meaning.{outcomeTold, numberedTold}
 use Rattle.asking.specs.Answers.{QuestionIs}
-use Rattle.asking.proofs.Patterns.{entries-few, entries-within, not-entries, unranked, ranked}
+use Rattle.text_entries.proofs.Given.{entries-few, entries-within}
+use Rattle.asking.proofs.Patterns.{not-entries, unranked, ranked}
 use Rattle.asking.proofs.patterned.ask_entries.Statement.{statement}
 use Rattle.asking.proofs.patterned.ask_entries.Tie as tie
 
