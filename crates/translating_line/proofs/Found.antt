@@ -1,6 +1,6 @@
 -- What is concluded of the pattern that a line names: by a number in an order (`no-number`, `by-order`), and by entries (`no-entries`, `wrong-count`, `right-count`).
 -- Assumes nothing.
-use mathlib.Core.Path.{_≡_, refl, sym, ap, _∙_}
+use mathlib.Core.Path.{_≡_, refl, sym, ap, subst, _∙_}
 use mathlib.Core.Bool.{Bool, true, false, cond}
 use mathlib.Core.Logic.{_≢_}
 use mathlib.Core.List.{List, [], _∷_, _++_, append-nil, map}
@@ -14,6 +14,7 @@ use Rattle.listing.specs.Count.{count}
 use Rattle.listing.specs.Listing.{at}
 use Rattle.listing.specs.Limits.{mostPorts, largest64}
 use Rattle.listing.proofs.Numbers.{either, below?}
+use Rattle.listing_dictionary.specs.Dictionary.{inDictionary}
 use Rattle.words.specs.Told.{Told, Spot, accepted, refused, nowhere, then, need, leaves}
 use Rattle.words.specs.Meaning.{outcomeTold}
 use Rattle.words.proofs.Told.{not-both}
@@ -26,12 +27,22 @@ use Rattle.line_format.specs.Calls.{over}
 use Rattle.pattern_check.specs.Calls.{sized}
 use Rattle.pattern_check.proofs.Calls.{fits}
 use Rattle.patterns.specs.Calls.{ranked, unrankOf, unrankBytes}
+use Rattle.dictionary.specs.Calls.{listedOf, dictionaryPatternOf, dictionaryPatternBytes}
 use Rattle.translating.specs.Lines.{numbered}
 use Rattle.translating_line.specs.Pieces.{inOrder, counted, inEntries, foundTold, foundBytes}
 
 -- what was told of a pattern and the bytes left
 abbrev pub Finds : Told (List ℕ) → List ℕ → Told (Unit {0}) → List ℕ → Type 0
 Finds told old answer left = (answer ≡ foundTold told) × (left ≡ foundBytes told old)
+
+-- what is told of one pattern is told of another that is the same
+pub finds-as : (told other : Told (List ℕ)) → told ≡ other → (old : List ℕ) (answer : Told (Unit {0})) (left : List ℕ) → Finds told old answer left
+    → Finds other old answer left
+finds-as told other e old answer left F = subst (λ x. Finds x old answer left) e F
+
+-- a refusal leaves the bytes as they were
+pub finds-refused : (told : Told (List ℕ)) (old : List ℕ) (k : ℕ) (s : Spot) → refused k s ≡ told → Finds told old (refused k s) old
+finds-refused told old k s e = finds-as (refused k s) told e old (refused k s) old (refl, refl)
 
 -- ---- by a number in an order
 
@@ -52,14 +63,26 @@ module _ (order : ℕ → List ℕ) (n : ℕ) (t old : List ℕ) where
       by true f g = (f, g)
       by false f g = (f, g)
 
--- as unrank tells it
-pub by-unrank : (t old : List ℕ) → 2 ≤ length old → length old ≤ mostPorts → (r : ℕ) → some r ≡ numberUpTo largest64 t
-    → (answer : Told (Unit {0})) (left : List ℕ) → answer ≡ unrankOf mostPorts r old → left ≡ unrankBytes mostPorts r old
-    → Finds (inOrder (at (length old)) (length old) t) old answer left
-unfolding unrankOf unrankBytes
-by-unrank t old low high r e answer left f g =
-    let size : unrankOf mostPorts r old ≡ ranked (length old) r (accepted tt) = fits mostPorts (length old) (ranked (length old) r (accepted tt)) low high in
-    by-order (at (length old)) (length old) t old r e answer left (f ∙ size) (g ∙ ap (λ told. leaves told (at (length old) r) old) size)
+  -- as a call tells it that looks at the size first
+  sized-order : 2 ≤ n → n ≤ mostPorts → (r : ℕ) → some r ≡ numberUpTo largest64 t → (answer : Told (Unit {0})) (left : List ℕ)
+      → answer ≡ sized mostPorts n (ranked n r (accepted tt)) → left ≡ leaves {A = Unit {0}} (sized mostPorts n (ranked n r (accepted tt))) (order r) old
+      → Finds (inOrder order n t) old answer left
+  sized-order low high r e answer left f g =
+      let size = fits mostPorts n (ranked n r (accepted tt)) low high in
+      by-order r e answer left (f ∙ size) (g ∙ ap (λ told. leaves told (order r) old) size)
+
+module _ (t old : List ℕ) (low : 2 ≤ length old) (high : length old ≤ mostPorts) (r : ℕ) (e : some r ≡ numberUpTo largest64 t)
+    (answer : Told (Unit {0})) (left : List ℕ) where
+  -- by a rank in the list
+  pub by-unrank : answer ≡ unrankOf mostPorts r old → left ≡ unrankBytes mostPorts r old → Finds (inOrder (at (length old)) (length old) t) old answer left
+  unfolding unrankOf unrankBytes
+  by-unrank f g = sized-order (at (length old)) (length old) t old low high r e answer left f g
+
+  -- by a number in the dictionary
+  pub by-numbered : answer ≡ dictionaryPatternOf mostPorts r old → left ≡ dictionaryPatternBytes mostPorts r old
+      → Finds (inOrder (inDictionary (length old)) (length old) t) old answer left
+  unfolding dictionaryPatternBytes listedOf
+  by-numbered f g = sized-order (inDictionary (length old)) (length old) t old low high r e answer left f g
 
 -- ---- by entries
 

@@ -15,7 +15,7 @@ use Rattle.text_entries.specs.Entries.{following, entriesIn, entryByte}
 use Rattle.pattern_check.specs.Calls.{checkOf}
 use Rattle.patterns.specs.Calls.{ranked}
 use Rattle.translating.specs.Names.{Named, names, rankKey, numberKey, patternKey, namesText}
-use Rattle.translating.specs.Lines.{numbered}
+use Rattle.translating.specs.Lines.{numbered, namedOf, Went}
 
 -- the text of the entries after the first k
 abbrev pub restText : List ℕ → ℕ → List ℕ
@@ -63,3 +63,7 @@ namesLength told = then told (λ x. accepted (length (namesText x)))
 abbrev pub namesLine : Told Named → List ℕ
 namesLine (accepted x) = namesText x
 namesLine (refused k s) = []
+
+-- a line that names a pattern of n ports: what it leaves and prints
+abbrev pub namedLineOf : ℕ → List ℕ → Told Went
+namedLineOf n t = then (namedOf n t) (λ x. accepted (record { ports = n; text = namesText x }))
