@@ -1,8 +1,5 @@
-pub mod Entries
-pub mod Written
 pub mod Found
 pub mod Answers
-pub mod Names
 pub mod Keys
 pub mod Through
 pub mod Ports

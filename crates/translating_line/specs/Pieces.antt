@@ -1,25 +1,19 @@
--- What the inner pieces answer: entries after others, each with a comma before it; the pattern that a line finds, before it is checked; and its names.
+-- What the inner pieces answer: the pattern that a line finds, before it is checked; and the line that names it.
 -- Assumes nothing.
 use Prim.Native.Nat.{ℕ}
 use mathlib.Core.Bool.{cond}
-use mathlib.Core.List.{List, [], map}
+use mathlib.Core.List.{List, map}
 use lib.Dec.{eqb}
 use lib.ListN.{length, drop}
 use Rattle.listing.specs.Listing.{at}
-use Rattle.listing.specs.Limits.{mostPorts, largest64}
+use Rattle.listing.specs.Limits.{largest64}
 use Rattle.listing_dictionary.specs.Dictionary.{inDictionary}
 use Rattle.words.specs.Told.{Told, accepted, refused, nowhere, then, need}
-use Rattle.text_numbers.specs.Decimal.{digitsOf}
-use Rattle.text_keys.specs.Parts.{comma, begins}
-use Rattle.text_entries.specs.Entries.{following, entriesIn, entryByte}
-use Rattle.pattern_check.specs.Calls.{checkOf}
+use Rattle.text_keys.specs.Parts.{begins}
+use Rattle.text_entries.specs.Entries.{entriesIn, entryByte}
 use Rattle.patterns.specs.Calls.{ranked}
-use Rattle.translating.specs.Names.{Named, names, rankKey, numberKey, patternKey, namesText}
+use Rattle.translating.specs.Names.{rankKey, numberKey, patternKey, namesText}
 use Rattle.translating.specs.Lines.{numbered, namedOf, Went}
-
--- the text of the entries after the first k
-abbrev pub restText : List ℕ → ℕ → List ℕ
-restText p k = following comma (map digitsOf (drop k p))
 
 -- ---- the pattern that a line finds
 
@@ -50,19 +44,7 @@ abbrev pub foundBytes : Told (List ℕ) → List ℕ → List ℕ
 foundBytes (accepted p) old = p
 foundBytes (refused k s) old = old
 
--- ---- its names
-
--- the names of a pattern: the refusals of the check
-unfoldable pub namesOf : List ℕ → Told Named
-namesOf p = then (checkOf mostPorts p) (λ ok. accepted (names (length p) p))
-
--- how long their line is, and the line itself; none on a refusal
-abbrev pub namesLength : Told Named → Told ℕ
-namesLength told = then told (λ x. accepted (length (namesText x)))
-
-abbrev pub namesLine : Told Named → List ℕ
-namesLine (accepted x) = namesText x
-namesLine (refused k s) = []
+-- ---- its line
 
 -- a line that names a pattern of n ports: what it leaves and prints
 abbrev pub namedLineOf : ℕ → List ℕ → Told Went

@@ -1,16 +1,12 @@
 // One line translated: the pattern that it names is found, and the line of its names is written.
 pub mod finding;
-pub mod writing;
 
 use crate::finding::find_pattern;
-use crate::writing::write_names;
-use dictionary::numbering::number;
 use line_writer::answers::Written;
-use patterns::ranking::rank;
 use text_keys::has_key;
 use text_numbers::Read;
 use text_numbers::reading::read_number;
-use words::Numbered;
+use translating_names::name_pattern;
 use words::Outcome;
 use words::Reason;
 use words::Refusal;
@@ -23,14 +19,10 @@ ghost use Prim.Native.Nat.{_≤_};
 ghost use lib.ListN.{length};
 ghost use Rattle.listing.specs.Limits.{mostPorts};
 ghost use Rattle.line_format.specs.Calls.{over};
-ghost use Rattle.line_writer.specs.Answers.{writtenTold};
 ghost use Rattle.translating.specs.Names.{mostNames};
 ghost use Rattle.translating.specs.Lines.{SoFar, portsOf, lineOf};
-ghost use Rattle.translating_line.specs.Pieces.{namesOf, namesLength, namesLine, namedLineOf};
+ghost use Rattle.translating_line.specs.Pieces.{namedLineOf};
 ghost use Rattle.translating_line.specs.Answers.{lineTold, wentTold, textIn};
-
-// No line of names is longer.
-pub const NAMES_BYTES: usize = 109;
 
 // No good line is longer, its newline not counted.
 pub const LINE_BYTES: usize = 58;
@@ -42,21 +34,6 @@ const PORTS_KEY: usize = 6;
 pub enum Translated {
     Went(u8, usize),
     Refused(Refusal),
-}
-
-// The names of a pattern, as a line at the front of a buffer.
-fn name_pattern(p: &[u8], out: &mut [u8]) -> Written
-    requires { ⌜ mostNames ≤ length (now out) ⌝ }
-    ensures told { λ r. ⌜ writtenTold r ≡ namesLength (namesOf (now (p .entry))) ⌝ }
-    ensures bytes { λ _. ⌜ now (out .exit) ≡ over (namesLine (namesOf (now (p .entry)))) (now (out .entry)) ⌝ }
-{
-    match rank(p) {
-        Numbered::Refused(f) => Written::Refused(f),
-        Numbered::Is(r) => match number(p) {
-            Numbered::Refused(f) => Written::Refused(f),
-            Numbered::Is(k) => Written::Bytes(write_names(r, k, p, out)),
-        },
-    }
 }
 
 // The names that a line asks for, of a pattern of as many ports as the first slice has bytes, which it is put into.

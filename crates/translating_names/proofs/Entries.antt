@@ -12,7 +12,7 @@ use Rattle.text_keys.specs.Parts.{comma}
 use Rattle.text_entries.specs.Entries.{following, joined, entriesText}
 use Rattle.line_putting.specs.Putting.{Puts}
 use Rattle.line_putting.proofs.Putting.{Going, going-first, going-room, going-on, going-over}
-use Rattle.translating_line.specs.Pieces.{restText}
+use Rattle.translating_names.specs.Pieces.{restText}
 
 -- entry k with its comma
 abbrev entryText : List ℕ → ℕ → List ℕ

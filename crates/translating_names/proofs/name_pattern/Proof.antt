@@ -1,11 +1,11 @@
--- `translating_line::name_pattern`: of a pattern that the check accepts, the rank and the dictionary number are written with it.
+-- `translating_names::name_pattern`: of a pattern that the check accepts, the rank and the dictionary number are written with it.
 -- Assumes nothing.
 use mathlib.Core.Path.{sym, ap, _∙_}
 use borrow.Author.Needs.{needs}
 use Rattle.words.specs.Meaning.{numberedTold}
-use Rattle.translating_line.proofs.Names.{rank-refused, number-refused, names-room, named}
-use Rattle.translating_line.proofs.name_pattern.Statement.{statement}
-use Rattle.translating_line.proofs.name_pattern.Tie as tie
+use Rattle.translating_names.proofs.Names.{rank-refused, number-refused, names-room, named}
+use Rattle.translating_names.proofs.name_pattern.Statement.{statement}
+use Rattle.translating_names.proofs.name_pattern.Tie as tie
 
 write-names-requires : tie.Need-write-names-requires
 write-names-requires c κs =

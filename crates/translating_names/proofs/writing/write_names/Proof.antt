@@ -1,9 +1,9 @@
--- `translating_line::writing::write_names` puts each part of the line behind the one before.
+-- `translating_names::writing::write_names` puts each part of the line behind the one before.
 -- Assumes nothing.
 use borrow.Author.Needs.{needs}
-use Rattle.translating_line.proofs.Written.{rank-room, number-room, key-room, entries-room, newline-room, names-put}
-use Rattle.translating_line.proofs.writing.write_names.Statement.{statement}
-use Rattle.translating_line.proofs.writing.write_names.Tie as tie
+use Rattle.translating_names.proofs.Written.{rank-room, number-room, key-room, entries-room, newline-room, names-put}
+use Rattle.translating_names.proofs.writing.write_names.Statement.{statement}
+use Rattle.translating_names.proofs.writing.write_names.Tie as tie
 
 put-number-requires : tie.Need-put-number-requires
 put-number-requires c κs = let s = c .before .before .before .before in (search needs, rank-room _ (s .args .out .now) (s .pre .1))

@@ -8,7 +8,7 @@ ghost use Rattle.line_format.specs.Calls.{over};
 ghost use Rattle.text_entries.specs.Entries.{entriesText};
 ghost use Rattle.line_putting.specs.Putting.{Puts};
 ghost use Rattle.translating.specs.Names.{namesText};
-ghost use Rattle.translating_line.specs.Pieces.{restText};
+ghost use Rattle.translating_names.specs.Pieces.{restText};
 
 // The entries after the first, a comma before each, put into a buffer from a place on; the place after them.
 fn put_rest(p: &[u8], from: usize, buf: &mut [u8]) -> usize

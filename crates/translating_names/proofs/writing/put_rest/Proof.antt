@@ -1,14 +1,14 @@
--- `translating_line::writing::put_rest`: of the entries after the first, those from entry k on are still to be put, each after a comma.
+-- `translating_names::writing::put_rest`: of the entries after the first, those from entry k on are still to be put, each after a comma.
 -- Assumes nothing.
 use Prim.Native.Nat.{_-_}
 use native.Mathlib.Omega.{arith}
 use lib.ListN.{length}
 use borrow.Author.Needs.{needs}
 use Rattle.line_putting.proofs.Putting.{Going, going-first}
-use Rattle.translating_line.specs.Pieces.{restText}
-use Rattle.translating_line.proofs.Entries.{entry-room, entry-on, entries-over}
-use Rattle.translating_line.proofs.writing.put_rest.Statement.{statement}
-use Rattle.translating_line.proofs.writing.put_rest.Tie as tie
+use Rattle.translating_names.specs.Pieces.{restText}
+use Rattle.translating_names.proofs.Entries.{entry-room, entry-on, entries-over}
+use Rattle.translating_names.proofs.writing.put_rest.Statement.{statement}
+use Rattle.translating_names.proofs.writing.put_rest.Tie as tie
 
 abbrev Inv-loop : tie.InvT-loop
 Inv-loop p from buf₀ at₀ k₀ comma buf at k = Going from (restText p 1) buf₀ at (restText p k) buf

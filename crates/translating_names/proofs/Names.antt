@@ -18,7 +18,7 @@ use Rattle.patterns.specs.Calls.{rankOf}
 use Rattle.dictionary.specs.Calls.{dictionaryNumberOf}
 use Rattle.translating.specs.Names.{Named, names, namesText, mostNames}
 use Rattle.translating.proofs.Longest.{names-109}
-use Rattle.translating_line.specs.Pieces.{namesOf, namesLength, namesLine}
+use Rattle.translating_names.specs.Pieces.{namesOf, namesLength, namesLine}
 
 -- what was told of the names of a pattern, and the bytes left
 abbrev pub Writes : Told Named → List ℕ → Told ℕ → List ℕ → Type 0

@@ -1,10 +1,10 @@
--- `translating_line::writing::put_entries` puts the first entry, and then the others with their commas.
+-- `translating_names::writing::put_entries` puts the first entry, and then the others with their commas.
 -- Assumes nothing.
 use native.Mathlib.Omega.{arith}
 use borrow.Author.Needs.{needs}
-use Rattle.translating_line.proofs.Entries.{first-room, rest-room, all-entries}
-use Rattle.translating_line.proofs.writing.put_entries.Statement.{statement}
-use Rattle.translating_line.proofs.writing.put_entries.Tie as tie
+use Rattle.translating_names.proofs.Entries.{first-room, rest-room, all-entries}
+use Rattle.translating_names.proofs.writing.put_entries.Statement.{statement}
+use Rattle.translating_names.proofs.writing.put_entries.Tie as tie
 
 put-number-requires : tie.Need-put-number-requires
 put-number-requires c κs = let s = c .before .before .before .before .before in (search needs, first-room _ _ (s .args .buf .now) (s .pre .0) (s .pre .1))
