@@ -1,4 +1,3 @@
-pub mod Found
 pub mod Answers
 pub mod Keys
 pub mod Through

@@ -29,7 +29,8 @@ use Rattle.patterns.specs.Calls.{ranked}
 use Rattle.translating.specs.Names.{Named, names, byRank, byNumber, byPattern, rankKey, numberKey, patternKey, namesText}
 use Rattle.translating.specs.Lines.{numbered, namedOf, Went}
 use Rattle.translating_names.specs.Pieces.{namesOf, namesLength, namesLine}
-use Rattle.translating_line.specs.Pieces.{inOrder, counted, inEntries, patternOf, foundTold, foundBytes, namedLineOf}
+use Rattle.translating_find.specs.Pieces.{inOrder, counted, inEntries, patternOf, foundTold, foundBytes}
+use Rattle.translating_line.specs.Pieces.{namedLineOf}
 use Rattle.translating_line.specs.Answers.{wentTold, textIn}
 use Rattle.translating_line.proofs.Answers.{Goes, goes-refused}
 

@@ -1,11 +1,9 @@
 // One line translated: the pattern that it names is found, and the line of its names is written.
-pub mod finding;
-
-use crate::finding::find_pattern;
 use line_writer::answers::Written;
 use text_keys::has_key;
 use text_numbers::Read;
 use text_numbers::reading::read_number;
+use translating_find::find_pattern;
 use translating_names::name_pattern;
 use words::Outcome;
 use words::Reason;

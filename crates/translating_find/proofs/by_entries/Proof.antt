@@ -1,4 +1,4 @@
--- `translating_line::finding::by_entries`: as many entries as there are ports are put over the bytes that were there.
+-- `translating_find::by_entries`: as many entries as there are ports are put over the bytes that were there.
 -- Assumes nothing.
 use mathlib.Core.Path.{sym, ap, _∙_}
 use Prim.Native.Nat.{_≤_}
@@ -9,9 +9,9 @@ use borrow.Author.Needs.{needs}
 use Rattle.words.specs.Meaning.{refusalOf, outcomeTold}
 use Rattle.text_entries.proofs.Given.{entries-within}
 use Rattle.line_putting.proofs.Putting.{puts-front}
-use Rattle.translating_line.proofs.Found.{no-entries, wrong-count, right-count}
-use Rattle.translating_line.proofs.finding.by_entries.Statement.{statement}
-use Rattle.translating_line.proofs.finding.by_entries.Tie as tie
+use Rattle.translating_find.proofs.Found.{no-entries, wrong-count, right-count}
+use Rattle.translating_find.proofs.by_entries.Statement.{statement}
+use Rattle.translating_find.proofs.by_entries.Tie as tie
 
 -- the entries lie in their array
 within : (c : tie.After-entries-in) → c .entries-in .result .len ≤ length (c .entries-in .result .bytes)

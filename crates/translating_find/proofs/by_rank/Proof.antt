@@ -1,12 +1,12 @@
--- `translating_line::finding::by_number`: a number that was read is looked up in the dictionary.
+-- `translating_find::by_rank`: a number that was read is looked up in the list.
 -- Assumes nothing.
 use mathlib.Core.Path.{sym, ap, _∙_}
 use borrow.Author.Needs.{needs}
 use Rattle.words.specs.Meaning.{refusalOf}
 use Rattle.text_numbers.specs.Answers.{readIs}
-use Rattle.translating_line.proofs.Found.{no-number, by-numbered}
-use Rattle.translating_line.proofs.finding.by_number.Statement.{statement}
-use Rattle.translating_line.proofs.finding.by_number.Tie as tie
+use Rattle.translating_find.proofs.Found.{no-number, by-unrank}
+use Rattle.translating_find.proofs.by_rank.Statement.{statement}
+use Rattle.translating_find.proofs.by_rank.Tie as tie
 
 returns : tie.Need-returns
 returns c =
@@ -21,11 +21,10 @@ returns-2 c =
     let k = u .before .before .before in
     let r = k .before .before in
     let s = r .before .before .before in
-    by-numbered _ (s .args .p .now) (s .pre .0) (s .pre .1) _ (sym (ap readIs (k .k .given .1)) ∙ r .read-number .ensures) _ _ (u .numbered .ensures .0)
-    (u .numbered .ensures .1)
+    by-unrank _ (s .args .p .now) (s .pre .0) (s .pre .1) _ (sym (ap readIs (k .r .given .1)) ∙ r .read-number .ensures) _ _ (u .unrank .ensures .0) (u .unrank .ensures .1)
 
-pub by-number-spec : {M : Type 1} → statement M
-by-number-spec =
+pub by-rank-spec : {M : Type 1} → statement M
+by-rank-spec =
     tie.close
     (tie.spec
     (λ c κs. search needs)

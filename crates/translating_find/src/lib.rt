@@ -16,7 +16,7 @@ ghost use Rattle.listing.specs.Listing.{at};
 ghost use Rattle.listing.specs.Limits.{mostPorts};
 ghost use Rattle.listing_dictionary.specs.Dictionary.{inDictionary};
 ghost use Rattle.words.specs.Meaning.{outcomeTold};
-ghost use Rattle.translating_line.specs.Pieces.{inOrder, inEntries, patternOf, foundTold, foundBytes};
+ghost use Rattle.translating_find.specs.Pieces.{inOrder, inEntries, patternOf, foundTold, foundBytes};
 
 // The lengths of the keys `rank=`, `number=` and `pattern=`.
 const RANK_KEY: usize = 5;

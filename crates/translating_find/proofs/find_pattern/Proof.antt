@@ -1,4 +1,4 @@
--- `translating_line::finding::find_pattern` asks for the three keys in turn.
+-- `translating_find::find_pattern` asks for the three keys in turn.
 -- Assumes nothing.
 use mathlib.Core.Path.{sym, ap, _∙_}
 use Prim.Native.Nat.{_≤_}
@@ -7,10 +7,10 @@ use borrow.Author.Needs.{needs}
 use Rattle.words.specs.Meaning.{refusalOf}
 use Rattle.text_keys.proofs.Keys.{key-room}
 use Rattle.translating.specs.Names.{rankKey, numberKey, patternKey}
-use Rattle.translating_line.proofs.Found.{finds-as, finds-refused}
-use Rattle.translating_line.proofs.Keys.{rank-key, number-key, pattern-key, no-key}
-use Rattle.translating_line.proofs.finding.find_pattern.Statement.{statement}
-use Rattle.translating_line.proofs.finding.find_pattern.Tie as tie
+use Rattle.translating_find.proofs.Found.{finds-as, finds-refused}
+use Rattle.translating_find.proofs.Keys.{rank-key, number-key, pattern-key, no-key}
+use Rattle.translating_find.proofs.find_pattern.Statement.{statement}
+use Rattle.translating_find.proofs.find_pattern.Tie as tie
 
 -- a line with a key has as many bytes as the key
 rank-inside : (c : tie.Then1) → 5 ≤ length (c .before .before .before .before .before .args .t .now)

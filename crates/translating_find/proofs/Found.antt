@@ -29,7 +29,7 @@ use Rattle.pattern_check.proofs.Calls.{fits}
 use Rattle.patterns.specs.Calls.{ranked, unrankOf, unrankBytes}
 use Rattle.dictionary.specs.Calls.{listedOf, dictionaryPatternOf, dictionaryPatternBytes}
 use Rattle.translating.specs.Lines.{numbered}
-use Rattle.translating_line.specs.Pieces.{inOrder, counted, inEntries, foundTold, foundBytes}
+use Rattle.translating_find.specs.Pieces.{inOrder, counted, inEntries, foundTold, foundBytes}
 
 -- what was told of a pattern and the bytes left
 abbrev pub Finds : Told (List ℕ) → List ℕ → Told (Unit {0}) → List ℕ → Type 0
