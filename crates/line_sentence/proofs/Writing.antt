@@ -1,6 +1,6 @@
--- Texts written one behind the other: a text over the part of a buffer from a place on (`part-over`), and behind another one (`over-behind`), so that three of
--- them are one text over the buffer (`over-three`), are told as one (`three-room`, `three-front`), and as the sentence if they are its parts (`sentence-told`).
--- At the end, that any words fit 49 bytes (`words-fit`).
+-- Texts written one behind the other: the part of a buffer from a place on (`part-whole`, `part-put`), a text over it (`part-over`), and behind another one
+-- (`over-behind`), so that three of them are one text over the buffer (`over-three`), are told as one (`three-room`, `three-front`), and as the sentence if they
+-- are its parts (`sentence-told`). At the end, that any words fit 49 bytes (`words-fit`).
 -- Assumes nothing.
 use mathlib.Core.Path.{_≡_, sym, ap, _∙_, subst}
 use mathlib.Core.List.{List, [], _++_, append-assoc, append-nil}
@@ -23,7 +23,7 @@ use Rattle.line_sentence.specs.Sentences.{whereText, otherText, sentence
 
 -- ---- from a place on
 
-module _ (t b : List ℕ) (at : ℕ) (h : at + length t ≤ length b) where
+module _ (b : List ℕ) (at : ℕ) (h : at ≤ length b) where
   abbrev room : ℕ
   room = length b - at
 
@@ -32,16 +32,21 @@ module _ (t b : List ℕ) (at : ℕ) (h : at + length t ≤ length b) where
   none-after = post-is at (length b) b (omega arith) ∙ drop-length b
 
   -- the part is all from the place on
-  part-whole : midOf at room b ≡ drop at b
+  pub part-whole : midOf at room b ≡ drop at b
   part-whole =
       sym (append-nil (midOf at room b)) ∙ ap (λ x. midOf at room b ++ x) (sym none-after) ∙ take-append-drop room (drop at b)
 
-  -- the text is put at its front, and what stands before the place stays
-  pub part-over : (ys : List ℕ) → ys ≡ roomBytes t (midOf at room b) → putMid at room b ys ≡ take at b ++ over t (drop at b)
-  part-over ys e =
-      let fits : length t ≤ length (midOf at room b) = omega (arith, mid-len at (length b) b (omega arith)) in
-      ap (λ x. take at b ++ (ys ++ x)) none-after
-      ∙ ap (λ x. take at b ++ x) (append-nil ys ∙ e ∙ sym (text-front t (midOf at room b) fits .1) ∙ ap (over t) part-whole)
+  -- what is left in its place stands after what stands before the place
+  pub part-put : (ys : List ℕ) → putMid at room b ys ≡ take at b ++ ys
+  part-put ys = ap (λ x. take at b ++ (ys ++ x)) none-after ∙ ap (λ x. take at b ++ x) (append-nil ys)
+
+-- the text is put at its front, and what stands before the place stays
+pub part-over : (t b : List ℕ) (at : ℕ) → at + length t ≤ length b → (ys : List ℕ) → ys ≡ roomBytes t (midOf at (length b - at) b)
+    → putMid at (length b - at) b ys ≡ take at b ++ over t (drop at b)
+part-over t b at h ys e =
+    let inside : at ≤ length b = omega arith in
+    let fits : length t ≤ length (midOf at (length b - at) b) = omega (arith, mid-len at (length b) b (omega arith)) in
+    part-put b at inside ys ∙ ap (λ x. take at b ++ x) (e ∙ sym (text-front t (midOf at (length b - at) b) fits .1) ∙ ap (over t) (part-whole b at inside))
 
 -- ---- one behind the other
 
