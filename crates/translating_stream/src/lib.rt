@@ -6,9 +6,11 @@ use translating_line::Translated;
 use translating_line::translate_line;
 use translating_names::NAMES_BYTES;
 use words::Refusal;
+ghost use mathlib.Core.Path.{_≡_};
 ghost use Prim.Native.Nat.{_+_, _≤_};
-ghost use lib.ListN.{length};
+ghost use lib.ListN.{length, take, drop};
 ghost use Rattle.listing.specs.Limits.{largest64};
+ghost use Rattle.line_format.specs.Calls.{over};
 ghost use Rattle.translating.specs.Lines.{SoFar};
 ghost use Rattle.translating_stream.specs.Parts.{StepIs, PartIs};
 
@@ -103,4 +105,29 @@ pub fn translate_some(text: &[u8], ports: u8, line: u64, out: &mut [u8]) -> Part
             }
         }
     }
+}
+
+// The bytes of a text from a place up to another, moved to its front.
+fn keep(text: &mut [u8], from: usize, to: usize)
+    requires { ⌜ (from ≤ to) × (to ≤ length (now text)) ⌝ }
+    ensures { λ _. ⌜ now (text .exit) ≡ over (drop from (take to (now (text .entry)))) (now (text .entry)) ⌝ }
+{
+    let n = to - from;
+    let mut i: usize = 0;
+    while i < n {
+        text[i] = text[from + i];
+        i += 1;
+    }
+}
+
+// The whole lines among the first n bytes of a buffer, and what is left of those bytes moved to its front, where the next part goes on.
+pub fn translate_held(text: &mut [u8], n: usize, ports: u8, line: u64, out: &mut [u8]) -> Part
+    requires { ⌜ SoFar ports × (n ≤ length (now text)) × (line + n ≤ largest64) ⌝ }
+    ensures part { λ r. ⌜ PartIs ports line (take n (now (text .entry))) (now (out .entry)) (now (out .exit)) r ⌝ }
+    ensures left { λ r. ⌜ now (text .exit) ≡ over (drop (r .used) (take n (now (text .entry)))) (now (text .entry)) ⌝ }
+{
+    let part = translate_some(&text[..n], ports, line, out);
+    let used = part.used;
+    keep(text, used, n);
+    part
 }
