@@ -6,6 +6,9 @@ use words::Reason;
 use words::Refusal;
 use words::refusals::earlier_number;
 use words::refusals::place_number;
+ghost use mathlib.Core.Path.{_≡_};
+ghost use Prim.Native.Nat.{_+_, _≤_};
+ghost use lib.ListN.{length, take};
 ghost use Rattle.io.specs.Counts.{Counts};
 
 // The descriptor on which a program tells its outcome.
@@ -33,6 +36,25 @@ pub fn read_input(text: &mut [u8]) -> Input
     Input {
         failed: false,
         len: first + rest,
+    }
+}
+
+// Standard input read once, into a buffer from a place on. No bytes where it is at its end.
+pub fn read_more(text: &mut [u8], from: usize) -> Input
+    requires { ⌜ from ≤ length (now text) ⌝ }
+    ensures fits { λ r. ⌜ from + r .len ≤ length (now (text .entry)) ⌝ }
+    ensures keeps { λ _. ⌜ take from (now (text .exit)) ≡ take from (now (text .entry)) ⌝ }
+{
+    let got = libc::read(0, &mut text[from..]);
+    if got < 0 {
+        return Input {
+            failed: true,
+            len: 0,
+        };
+    }
+    Input {
+        failed: false,
+        len: io::count(got, &text[from..]),
     }
 }
 
@@ -74,7 +96,7 @@ pub fn printed() {
 }
 
 // The second number of a refusal, told to the command.
-fn tell_earlier(place: Place) {
+pub fn tell_earlier(place: Place) {
     tell_number(b"earlier=", earlier_number(place) as u64);
 }
 
