@@ -21,11 +21,11 @@ pipe_gone=141   # the reader of a pipe went away, as SIGPIPE ends other filters;
 LC_ALL=C
 export LC_ALL
 
-# Descriptors that are closed are opened on something that fails as they do, so that no file of ours takes their number. What the shell says of a closed standard
-# error goes nowhere.
-{ true <&0; } 2>/dev/null || exec 0>/dev/null
-{ true >&1; } 2>/dev/null || exec 1</dev/null
-true >&2 || exec 2>/dev/null
+# Descriptors that are closed are opened on something that fails as they do, so that no file of ours takes their number. One is closed where it cannot be had under
+# another number as well. What the shell says of a closed standard error goes nowhere.
+{ true 3<&0; } 2>/dev/null || exec 0>/dev/null
+{ true 3>&1; } 2>/dev/null || exec 1</dev/null
+true 3>&2 || exec 2>/dev/null
 # the status where standard output cannot be written: a pipe has lost its reader, also where SIGPIPE is ignored
 if [ -p /dev/stdout ]; then unwritten=$pipe_gone; else unwritten=$unwritable; fi
 
