@@ -6,7 +6,7 @@
 #   usage         a function: how it is called and what it does, the first part of its help
 #   own_options   a text: its own options, for the help
 #   own_option    a function: takes an option of its own from its arguments, sets `taken` to how many it took, or fails if it knows none such
-# and then calls, in this order: options "$@"; build; spool; run; finish.
+# and then calls, in this order: options "$@"; build; spool, or stream where what is read may be of any length; run; finish.
 #
 # A Rattle program has no exit status. It tells on descriptor 3 how it ended (crates/console), and the statuses are given here:
 printed_all=0   # all that was asked for is on standard output
@@ -227,9 +227,8 @@ build() {
 
 # ---- running
 
-# spool: the front of what is read, kept for the program and for the words; more than any program judges
-spool() {
-    workplace
+# take_file: the file that was named becomes standard input; a terminal is told of
+take_file() {
     if [ "$file" != - ]; then
         [ -e "$file" ] || give_up "$unreadable" "no such file: $file"
         [ ! -d "$file" ] || give_up "$unreadable" "a folder, not a file: $file"
@@ -238,7 +237,22 @@ spool() {
     elif [ -t 0 ]; then
         say "reading the $what from the terminal; Ctrl-D ends it"
     fi
+}
+
+# spool: the front of what is read, kept for the program and for the words; more than any program judges
+spool() {
+    workplace
+    take_file
     head -c 4096 >"$work/text" 2>/dev/null || give_up "$unreadable" "the $what could not be read"
+}
+
+# stream: what is read goes to the program as it comes, however long it is. Of a refused line the program tells what the words need
+streamed=no
+stream() {
+    workplace
+    take_file
+    : >"$work/text"
+    streamed=yes
 }
 
 # as the kit runs its programs: its own loader and C library, and its emulator where the processor is another
@@ -277,15 +291,21 @@ progress() {
     say_again "$now %: $1 of $marks marks"
 }
 
-# run: the program on what was spooled, its standard output ours; sets `outcome`, for a refusal `number`, `place` and `earlier`, and `ended`, its status
+# run: the program on what was spooled or is streamed, its standard output ours; sets `outcome`, for a refusal `number`, `place` and `earlier`, for that of a line
+# also `jack` and `held`, the ports that hold there, with the line in the place of what was spooled; and `ended`, its status
 outcome=none
 number=''
 place=''
 earlier=''
+jack=''
+held=''
 run() {
     mkfifo "$work/told"
-    start_program <"$work/text" 3>"$work/told" &
+    # by a descriptor of its own, since what a shell starts in the background has no standard input
+    if [ "$streamed" = yes ]; then exec 4<&0; else exec 4<"$work/text"; fi
+    start_program <&4 4<&- 3>"$work/told" &
     child=$!
+    exec 4<&-
     while IFS= read -r line; do
         case $line in
             marks=*)
@@ -296,6 +316,9 @@ run() {
             refused=*) outcome=refused number=${line#*=} ;;
             at=*) place=${line#*=} ;;
             earlier=*) earlier=${line#*=} ;;
+            jack=*) jack=${line#*=} ;;
+            ports=*) held=${line#*=} ;;
+            line=*) printf '%s\n' "${line#*=}" >"$work/text" ;;
             *) outcome=$line ;;
         esac
     done <"$work/told"
@@ -322,7 +345,7 @@ finish() {
         printed) exit "$printed_all" ;;
         refused)
             [ "$words" = off ] ||
-                awk -v name="$name" -v asked="$asked" -v number="$number" -v place="$place" -v earlier="$earlier" \
+                awk -v name="$name" -v asked="$asked" -v number="$number" -v place="$place" -v earlier="$earlier" -v jack="$jack" -v held="$held" \
                     -v bytes="$(wc -c <"$work/text")" -f "$root/commands/words.awk" "$work/text" >&2
             exit "$was_refused"
             ;;
