@@ -7,7 +7,8 @@ archive_maker=''
 archive_begin() {
     if [ -f "$archive" ] && [ -z "$(find crates -newer "$archive" -type f | head -n 1)" ]; then return; fi
     rm -f "$archive"
-    for command in orders show; do bin/$command --quiet plans/two-ports >/dev/null || fail "archive: bin/$command does not run"; done
+    for command in orders show named; do bin/$command --quiet plans/two-ports >/dev/null || fail "archive: bin/$command does not run"; done
+    bin/translate --quiet examples/lab/numbers >/dev/null || fail 'archive: bin/translate does not run'
     tools/host-archive >target/archive.log 2>&1 &
     archive_maker=$!
 }

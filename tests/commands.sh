@@ -4,6 +4,7 @@ commands_out=$(mktemp -d)
 T=$commands_out
 # all programs up to date, so that no row tells of a build
 for command in orders show named; do bin/$command --quiet plans/two-ports >/dev/null || fail "commands: bin/$command does not run"; done
+bin/translate --quiet examples/lab/numbers >/dev/null || fail 'commands: bin/translate does not run'
 
 # the files of the table
 commands_file() { printf "$2" >"$T/$1"; }
@@ -36,13 +37,57 @@ commands_file second-but-1 'ports=20\nlegs=1\nstart=37292276299704253\nrun=-1864
 cp plans/example "$T/-plan"
 cp plans/example "$T/a plan"
 ln -s "$root/bin/orders" "$T/link"
+# those of lines to translate, most with a good one before the one at fault
+lines_file() { commands_file "lines-$1" "ports=5\nrank=9\n$2"; }
+lines_file ports 'ports=21\n'
+lines_file no-port 'pattern=5,4,2,3,9\n'
+lines_file wide-port 'pattern=5,4,258,3,1\n'
+lines_file port-twice 'pattern=5,3,2,1,3\n'
+lines_file own-port 'pattern=5,2,4,3,1\n'
+lines_file rank 'rank=44\n'
+lines_file number 'ports=20\nnumber=895014631192902121\n'
+lines_file key 'mark=0\n'
+lines_file decimal 'rank=nine\n'
+lines_file wide 'number=18446744073709551616\n'
+lines_file entries 'pattern=5;4;2;3;1\n'
+lines_file wide-entry 'pattern=5,4,2,3,18446744073709551616\n'
+lines_file one-entry 'pattern=5\n'
+lines_file six-entries 'pattern=5,4,2,3,6,1\n'
+lines_file long "$(head -c 59 /dev/zero | tr '\0' x)\n"
+lines_file long-unended "$(head -c 59 /dev/zero | tr '\0' x)"
+lines_file long-entries 'ports=20\npattern=21,1,4,3,6,5,8,7,10,9,12,11,14,13,16,15,18,17,20,19\n'
+lines_file long-return 'ports=20\npattern=2,1,4,3,6,5,8,7,10,9,12,11,14,13,16,15,18,17,20,19\r\n'
+lines_file unended 'rank=0'
+lines_file blank '\nrank=0\n'
+lines_file comment '# the first ones\n'
+lines_file blanks 'pattern=5, 4, 2, 3, 1\n'
+lines_file blank-key ' rank=0\n'
+lines_file zero 'pattern=05,4,2,3,1\n'
+lines_file plus 'rank=+1\n'
+lines_file minus 'number=-1\n'
+lines_file bytes 'rank=\\\\ \t%%s\001\177\200\201\377\000\n'
+commands_file lines-no-ports 'rank=0\nports=5\n'
+commands_file lines-returns 'ports=5\r\nrank=9\r\n'
+commands_file lines-order-mark '\357\273\277ports=5\nrank=9\n'
+commands_file lines-utf16 '\377\376p\000o\000r\000t\000s\000=\0005\000\n\000'
+commands_file lines-ports-alone 'ports=5\n'
+cp examples/lab/numbers "$T/-numbers"
+cp examples/lab/numbers "$T/some numbers"
+ln -s "$root/bin/translate" "$T/link-translate"
 
-# a reader that goes away after the first line; one that is gone before anything comes; SIGPIPE ignored; a print that is stopped; standard error a terminal
+# a reader that goes away after the first line; one that is gone before anything comes; SIGPIPE ignored; a print that is stopped; standard error a terminal; the
+# last two lines in one
 commands_status() { "$@"; echo $? >"$T/status"; }
 reader_gone() { commands_status "$@" | head -n 1 >/dev/null; return "$(cat "$T/status")"; }
 no_reader() { commands_status "$@" | true; return "$(cat "$T/status")"; }
 ignoring() { (trap '' PIPE; "$@"); }
 stopped() { timeout 3 "$@" >"$T/printed"; }
+ending() {
+    "$@" >"$T/printed"
+    ending_status=$?
+    tail -n 2 "$T/printed" | paste -sd ' ' -
+    return "$ending_status"
+}
 on_terminal() {
     script -qec "$1" /dev/null </dev/null >"$T/screen"
     terminal_status=$?
@@ -72,20 +117,22 @@ while IFS= read -r row; do
 done <tests/commands/table
 
 # every status that the commands' file names is met by a row for each command, but the one for what cannot be built (building.sh)
-for command in orders show named; do
+for command in orders show named translate; do
     for status in 0 64 65 66 74 141; do
         grep -qE "^$status \|.*bin/$command" tests/commands/table || fail "commands: no row of $command ends with $status"
     done
 done
 
-# the planners' page has the statuses that commands/way.sh gives, and no other
-commands_page=$(sed -n '/^| status /,/^$/s/^| \([0-9]*\) | .*/\1/p' docs/PLANS.md | sort -n | tr '\n' ' ')
+# the planners' page and the labs' have the statuses that commands/way.sh gives, and no other
 commands_given=$(sed -n 's/^[a-z_]*=\([0-9][0-9]*\) *#.*/\1/p' commands/way.sh | sort -n | tr '\n' ' ')
-if [ "$commands_page" = "$commands_given" ] && [ "$commands_given" = '0 1 64 65 66 74 141 ' ]; then
-    pass 'commands: docs/PLANS.md has the statuses that are given'
-else
-    fail "commands: docs/PLANS.md has the statuses $commands_page, and $commands_given are given"
-fi
+for page in docs/PLANS.md docs/NUMBERS.md; do
+    commands_page=$(sed -n '/^| status /,/^$/s/^| \([0-9]*\) | .*/\1/p' "$page" | sort -n | tr '\n' ' ')
+    if [ "$commands_page" = "$commands_given" ] && [ "$commands_given" = '0 1 64 65 66 74 141 ' ]; then
+        pass "commands: $page has the statuses that are given"
+    else
+        fail "commands: $page has the statuses $commands_page, and $commands_given are given"
+    fi
+done
 # its script, as it stands there: on a good plan, and on one that is refused
 mkdir "$T/script"
 ln -s "$root/bin" "$T/script/bin"
@@ -132,34 +179,54 @@ else
     fail 'commands: on a terminal the progress is not told, or stands among the orders'
 fi
 # what is printed is the same byte for byte with words, with --quiet and with neither
-for command in orders named; do
-    bin/$command --words plans/overlap-6 2>/dev/null >"$T/with"
-    bin/$command --quiet plans/overlap-6 >"$T/quiet"
-    bin/$command plans/overlap-6 >"$T/out"
-    if cmp "$T/with" "$T/out" && cmp "$T/quiet" "$T/out"; then
+while read -r command file; do
+    bin/$command --words "$file" 2>/dev/null >"$T/with"
+    bin/$command --quiet "$file" >"$T/quiet"
+    bin/$command "$file" >"$T/out"
+    if [ -s "$T/out" ] && cmp "$T/with" "$T/out" && cmp "$T/quiet" "$T/out"; then
         pass "commands: words change no byte of what $command prints"
     else
         fail "commands: words change what $command prints"
     fi
-done
-# a signal to the command alone ends the program too
-env --default-signal=INT,TERM bin/orders --quiet "$T/circuit-20" >/dev/null &
-one=$!
-sleep 0.7
-kill -s INT "$one"
-wait "$one"
-ended=$?
+done <<PRINTS
+orders plans/overlap-6
+named plans/overlap-6
+translate $T/lines-port-twice
+PRINTS
+# a signal to the command alone ends the program too: orders that are printed, lines that are waited for
 printing() { grep -sq "$root/target/bin/[o]rders" /proc/[0-9]*/cmdline; }
-tries=0
-while printing && [ "$tries" -lt 20 ]; do
-    sleep 0.1
-    tries=$((tries + 1))
+waiting() { grep -sq "$root/target/bin/[t]ranslate" /proc/[0-9]*/cmdline; }
+# within LIMIT COMMAND..: the command succeeds, within so many tenths of a second
+within() {
+    tries=$1
+    shift
+    until "$@"; do
+        tries=$((tries - 1))
+        [ "$tries" -gt 0 ] || return 1
+        sleep 0.1
+    done
+}
+# interrupted LABEL RUNNING SIGNAL STATUS: the command that was started last, once RUNNING sees its program, ends with that status by a signal
+interrupted() {
+    one=$!
+    within 100 "$2" && kill -s "$3" "$one"
+    wait "$one"
+    ended=$?
+    if [ "$ended" -eq "$4" ] && within 20 eval "! $2"; then
+        pass "commands: $4: $1, and nothing runs on"
+    else
+        fail "commands: $1: not with $4 but $ended, or something runs on"
+    fi
+}
+env --default-signal=INT,TERM bin/orders --quiet "$T/circuit-20" >/dev/null &
+interrupted 'Ctrl-C ends a print' printing INT 130
+mkfifo "$T/lines"
+for signal in INT,130 TERM,143 HUP,129; do
+    env --default-signal=INT,TERM,HUP bin/translate --quiet <"$T/lines" >"$T/out" &
+    exec 8>"$T/lines"
+    interrupted "${signal%,*} ends a translation that waits for more" waiting "${signal%,*}" "${signal#*,}"
+    exec 8>&-
 done
-if [ "$ended" -eq 130 ] && ! printing; then
-    pass 'commands: 130: Ctrl-C ends a print, and nothing runs on'
-else
-    fail "commands: Ctrl-C ends a print with $ended, or something runs on"
-fi
 # nothing is left among temporary files
 mkdir "$T/room"
 TMPDIR=$T/room bin/orders plans/example >/dev/null
@@ -167,5 +234,7 @@ TMPDIR=$T/room reader_gone bin/orders plans/full-circuit-10
 TMPDIR=$T/room bin/orders --bad 2>/dev/null
 TMPDIR=$T/room bin/named --words plans/example >/dev/null 2>&1
 TMPDIR=$T/room no_reader bin/named plans/example
+TMPDIR=$T/room bin/translate --words "$T/lines-own-port" >/dev/null 2>&1
+{ echo ports=5 && yes rank=9; } | TMPDIR=$T/room no_reader bin/translate
 if [ -z "$(ls "$T/room")" ]; then pass 'commands: no temporary file is left'; else fail 'commands: temporary files are left'; fi
 rm -rf "$commands_out"
