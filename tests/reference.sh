@@ -1,30 +1,12 @@
 # The reference: the plain Rust of tests/reference, written from the paper and document 000, holds to what these print; the proved library, through its
 # calls for C, holds to the reference on many inputs; the archive needs and exports what docs/USING.md says; the examples of a controller's loop print the
 # paper's output, built and run by the very commands of docs/USING.md.
-reference_out=target/reference
+type reference_library >/dev/null 2>&1 || . "$root/tests/reference/build.sh"
 reference_archive=target/host/libjidrofex.a
-
-# reference_build LABEL COMMAND..: the command, which compiles something; its messages are shown where it fails
-reference_build() {
-    reference_label=$1
-    shift
-    if "$@" >"$reference_out/log" 2>&1; then return 0; fi
-    cat "$reference_out/log"
-    fail "reference: $reference_label does not build"
-    return 1
-}
-
-# reference_rust LABEL ARGUMENTS..: a Rust program or library
-reference_rust() {
-    reference_label=$1
-    shift
-    reference_build "$reference_label" rustc -O --edition 2021 -D warnings "$@"
-}
 
 # the reference against document 000 and the paper
 reference_selftest() {
-    reference_rust 'the self test' --extern "reference=$reference_out/libreference.rlib" \
-        -o "$reference_out/selftest" tests/reference/selftest.rs || return
+    reference_over 'the self test' -o "$reference_out/selftest" tests/reference/selftest.rs || return
     if "$reference_out/selftest" >"$reference_out/log" 2>&1 &&
         tail -n 1 "$reference_out/log" | grep -Eqx 'selftest: [1-9][0-9]* comparisons, all hold'; then
         pass "reference: $(tail -n 1 "$reference_out/log")"
@@ -36,8 +18,8 @@ reference_selftest() {
 
 # the library beside the reference: one line for each group of inputs
 reference_differential() {
-    reference_rust 'the differential test' --extern "reference=$reference_out/libreference.rlib" --extern "face=$reference_out/libface.rlib" \
-        -C "link-arg=$reference_archive" -o "$reference_out/differential" tests/reference/differential.rs || return
+    reference_over 'the differential test' --extern "face=$reference_out/libface.rlib" -C "link-arg=$reference_archive" \
+        -o "$reference_out/differential" tests/reference/differential.rs || return
     if "$reference_out/differential" >"$reference_out/log" 2>&1 &&
         tail -n 1 "$reference_out/log" | grep -Eqx 'differential: [1-9][0-9]* cases, 0 differences'; then
         while read -r reference_line; do
@@ -129,12 +111,10 @@ reference_examples() {
     reference_commands
 }
 
-mkdir -p "$reference_out"
 type archive_ready >/dev/null 2>&1 || . "$root/tests/archive.sh"
 archive_ready
 [ ! -f "$reference_archive" ] || reference_symbols
-if [ -f "$reference_archive" ] &&
-    reference_rust 'the reference' --crate-type rlib --crate-name reference -o "$reference_out/libreference.rlib" tests/reference/reference.rs &&
+if [ -f "$reference_archive" ] && reference_library &&
     reference_rust 'the calls from Rust' --crate-type rlib --crate-name face -o "$reference_out/libface.rlib" tests/reference/face.rs; then
     reference_selftest
     reference_differential
