@@ -80,6 +80,7 @@ changed room-after-its-own crates.txt 's/^text_keys:/text_keys: panel/' 'a crate
 copy plan-that-no-test-runs
 echo 'ports=2' >"$gate_copy/plans/unrun"
 must_fail plan-that-no-test-runs 'a plan that no test runs: plans/unrun'
+changed example-that-no-page-shows docs/NUMBERS.md 's|`examples/lab/numbers`|the example|' 'an example that docs/NUMBERS.md does not show: examples/lab/numbers'
 
 # ---- the documents
 changed citations-stripped docs/PROMISES.md 's/`//g' 'docs/PROMISES.md cites 0, and says that it cites at least'
