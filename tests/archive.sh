@@ -1,5 +1,6 @@
-# The library for this machine, target/host/libjidrofex.a, which the parts reference, header, cuts and speed link. It is begun here and waited for by the first of
-# them. Two runs of rt in one tree disturb each other, so the commands' programs are brought up to date first.
+# The library for this machine, target/host/libjidrofex.a, which the parts reference, header, cuts and speed link. Making it takes a minute of one processor, so it
+# is begun here and made in the background while the types and the commands are tested. Two runs of rt in one tree disturb each other, so the commands' programs are
+# brought up to date first.
 archive=target/host/libjidrofex.a
 archive_maker=''
 

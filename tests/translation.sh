@@ -140,7 +140,7 @@ translation_shows() {
 translation_peak() {
     translation_begin
     ./pieces 65536 >&5 2>/dev/null
-    for status in $(grep -sl "$root/target/bin/[t]ranslate" /proc/[0-9]*/cmdline | sed 's/cmdline$/status/'); do sed -n 's/^VmHWM:[^0-9]*\([0-9]*\) kB$/\1/p' "$status"; done
+    cat /proc/[0-9]*/status 2>/dev/null | awk -v command="$translation_command" '/^PPid:/ { ours = $2 == command } /^VmHWM:/ && ours { print $2 }'
     translation_end
 }
 # grown LABEL PEAK: no more than 2 MB above that of a short text
