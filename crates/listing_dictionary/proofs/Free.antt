@@ -45,7 +45,7 @@ pub has-on : (x y : ℕ) (ys : List ℕ) → y ≢ x → Has x (y ∷ ys) → Ha
 has-on x y ys ne (inl e) = absurd (ne (sym e))
 has-on x y ys ne (inr h) = h
 
-length-without : (x : ℕ) (ys : List ℕ) → Has x ys → suc (length (without x ys)) ≡ length ys
+pub length-without : (x : ℕ) (ys : List ℕ) → Has x ys → suc (length (without x ys)) ≡ length ys
 length-without x [] h = absurd h
 length-without x (y ∷ ys) h =
     either (same? y x)

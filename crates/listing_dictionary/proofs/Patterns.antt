@@ -16,7 +16,7 @@ use Rattle.listing_dictionary.proofs.Fillings.{Fits, Fills}
 
 -- ---- the ports 1..n
 
-length-ports : (i m : ℕ) → length (ports i m) ≡ m
+pub length-ports : (i m : ℕ) → length (ports i m) ≡ m
 unfolding ports
 length-ports i zero = refl
 length-ports i (suc m) = ap suc (length-ports (suc i) m)
