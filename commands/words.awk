@@ -1,7 +1,8 @@
 # A refusal in words, for people: `number`, `place` and `earlier`, the second number, as the program told them; what was read on standard input, `bytes` long.
 # `asked` is what was asked for: a plan; a mark of a plan, whose line stands before the plan's own; a rank, which stands in the plan of one leg that starts
-# there; a pattern; or a line of those that are translated, which alone is read here: `place` is then its number, `jack` the jack at fault, and `held` the ports
-# that hold there, 0 for none. Each line begins with the command's `name`. The first says what is wrong and where, those after it what often makes it so.
+# there; a pattern; or a line of those that are translated, whose first 58 bytes alone are read here, less those that are 0: `place` is then its number, `jack` the
+# jack at fault, and `held` the ports that hold there, 0 for none. Each line begins with the command's `name`. The first says what is wrong and where, those after
+# it what often makes it so.
 
 { line[NR] = $0; whole += length($0) + 1 }
 
@@ -79,15 +80,18 @@ function rank_words() {
 }
 
 # a line that begins with `pattern=`, at fault at a jack
-function pattern_words(at,  entry, n, written) {
-    n = split(substr(line[1], 9), entry, ",")
+function pattern_words(at,  text, entry, n, written) {
+    text = substr(line[1], 9)
+    if (cut_off()) sub(/,$/, "", text)
+    n = split(text, entry, ",")
     if (number == 1) return "a pattern has 2 to 20 entries, and this one has " n
     if (number == 3) return "jack " at ": there is no port " entry[at] " among 1 to " n
     if (number == 4) return "jack " at ": port " entry[at] " is joined to jack " earlier " already"
     if (number == 5) return "jack " at ": it is joined to the port of its own number"
     written = written_as(entry, n)
     if (written == "large") return "a number of the pattern is above 64 bits"
-    if (asked == "line" && written == "plain") return n == held ? long_words() : "the pattern has " n (n == 1 ? " entry" : " entries") ", and the ports are " held
+    if (written == "plain" && cut_off()) return cut_off_words(n)
+    if (written == "plain" && asked == "line" && n != held) return "the pattern has " n (n == 1 ? " entry" : " entries") ", and the ports are " held
     return "the pattern is not plain decimal numbers with commas between them"
 }
 
@@ -100,6 +104,13 @@ function written_as(entry, n,  j, large) {
     return n == 0 ? "badly" : large ? "large" : "plain"
 }
 
+# a line may go on beyond what is read of it, and a pattern beyond its n entries there
+function cut_off() { return asked == "line" && length(here) == 58 }
+function cut_off_words(n) {
+    if (n > held) return "the pattern has " n " entries or more, and the ports are " held
+    return n == held && here !~ /,$/ ? long_words() : "the pattern has not " held " entries, or " long_words()
+}
+
 # a line that is translated. One that is too long is refused before its key is looked at, so that 8 at another key says that
 function line_words(  key) {
     key = substr(here, 1, index(here, "="))
@@ -107,7 +118,6 @@ function line_words(  key) {
     if (number == 6) return count_words(substr(key, 1, length(key) - 1))
     if (number == 7) return key ~ /^(rank|number|pattern)=$/ ? "no ports= came before this line" : "the key is none of ports=, rank=, number=, pattern="
     if (number == 11) return unended_words()
-    if (length(here) > 58) return long_words()
     if (key == "ports=" || held > 0 && (key == "rank=" || key == "number=")) return number_words("the")
     return held > 0 && key == "pattern=" ? pattern_words(jack) : long_words()
 }
@@ -115,7 +125,7 @@ function long_words() { return "the line is longer than any good one, which has 
 
 # ---- what often makes it so: of a text by its front, with its own words for what it is, where blanks stand, and a minus
 
-function hints(front, it, blanks, minus, cut_off) {
+function hints(front, it, blanks, minus, no_end) {
     if (front ~ /^\357\273\277/) hint("the file begins with a byte order mark; save it without one")
     else if (front ~ /^(\377\376|\376\377)/) hint("the file is in UTF-16; save it as plain text")
     if (here ~ /\r$/) hint("the lines end in carriage returns; save the file with plain newlines")
@@ -125,5 +135,5 @@ function hints(front, it, blanks, minus, cut_off) {
     else if (number == 8 && here ~ /[=,]-?0[0-9]/) hint("no leading zero")
     else if (number == 8 && here ~ /[=,]\+/) hint("no plus before a number")
     else if (number == 8 && here ~ /[=,]-/) hint(minus)
-    if (cut_off) hint("end the last line with a newline, as the others")
+    if (no_end) hint("end the last line with a newline, as the others")
 }

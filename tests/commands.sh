@@ -54,6 +54,10 @@ lines_file wide-entry 'pattern=5,4,2,3,18446744073709551616\n'
 lines_file one-entry 'pattern=5\n'
 lines_file six-entries 'pattern=5,4,2,3,6,1\n'
 lines_file long "$(head -c 59 /dev/zero | tr '\0' x)\n"
+lines_file long-count 'pattern=2,1,4,3,6,5,8,7,10,9,12,11,14,13,16,15,18,17,20,19,22,21,24,23\n'
+lines_file long-few 'ports=20\npattern=100,100,100,100,100,100,100,100,100,100,100,100,100,100\n'
+lines_file long-rank "rank=$(head -c 54 /dev/zero | tr '\0' 1)\n"
+lines_file nul 'pattern=5,4,2,3,1\000\n'
 lines_file long-unended "$(head -c 59 /dev/zero | tr '\0' x)"
 lines_file long-entries 'ports=20\npattern=21,1,4,3,6,5,8,7,10,9,12,11,14,13,16,15,18,17,20,19\n'
 lines_file long-return 'ports=20\npattern=2,1,4,3,6,5,8,7,10,9,12,11,14,13,16,15,18,17,20,19\r\n'
