@@ -22,7 +22,7 @@ ghost use lib.ListN.{length};
 ghost use Rattle.io.specs.Counts.{Counts};
 ghost use Rattle.listing.specs.Limits.{largest64};
 ghost use Rattle.translating.specs.Lines.{mostLine, SoFar};
-ghost use Rattle.translate.specs.Turns.{TurnIs};
+ghost use Rattle.translate.specs.Turns.{HoldsIs, TurnIs};
 
 // A proved loop has to end, and nothing says that the input does. So each loop counts its turns down, from a number that no run uses up: the lines of so many buffers
 // of 4,096 bytes still have numbers of 64 bits.
@@ -158,6 +158,37 @@ fn finish(left: &[u8], ports: u8, line: u64) {
 
 // ---- turn by turn
 
+// How it goes on after a part, with what is left of it at the front of the buffer.
+fn go_on(text: &mut [u8], left: usize, ports: u8, line: u64, stop: Stop) -> Turn
+    requires { ⌜ left ≤ length (now text) ⌝ }
+    ensures { λ r. ⌜ HoldsIs left ports line r ⌝ }
+{
+    match stop {
+        Stop::Refused(f) => {
+            refuse(f, ports, line, &text[..left]);
+            Turn::Over
+        }
+        Stop::Full => Turn::On(Held {
+            len: left,
+            full: true,
+            ports: ports,
+            line: line,
+        }),
+        Stop::More => {
+            if LINE_BYTES < left {
+                refuse_long(text, ports, line);
+                return Turn::Over;
+            }
+            Turn::On(Held {
+                len: left,
+                full: false,
+                ports: ports,
+                line: line,
+            })
+        }
+    }
+}
+
 // The whole lines among the first n bytes of the buffer, translated and written.
 fn translate_more(text: &mut [u8], n: usize, ports: u8, line: u64) -> Turn
     requires { ⌜ SoFar ports × (n ≤ length (now text)) × (line + length (now text) ≤ largest64) ⌝ }
@@ -166,35 +197,11 @@ fn translate_more(text: &mut [u8], n: usize, ports: u8, line: u64) -> Turn
     let mut out = io::large_buffer();
     let part = translate_held(text, n, ports, line, &mut out);
     let len = part.len;
-    let left = n - part.used;
     let stop = part.stop;
-    if !written(b"translate", &out[..len]) {
-        return Turn::Over;
+    if written(b"translate", &out[..len]) {
+        return go_on(text, n - part.used, part.ports, part.line, stop);
     }
-    match stop {
-        Stop::Refused(f) => {
-            refuse(f, part.ports, part.line, &text[..left]);
-            Turn::Over
-        }
-        Stop::Full => Turn::On(Held {
-            len: left,
-            full: true,
-            ports: part.ports,
-            line: part.line,
-        }),
-        Stop::More => {
-            if LINE_BYTES < left {
-                refuse_long(text, part.ports, part.line);
-                return Turn::Over;
-            }
-            Turn::On(Held {
-                len: left,
-                full: false,
-                ports: part.ports,
-                line: part.line,
-            })
-        }
-    }
+    Turn::Over
 }
 
 // One turn: more bytes are read, unless whole lines are still held, and translated.

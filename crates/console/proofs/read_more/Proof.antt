@@ -26,8 +26,7 @@ returns-2 c =
     let s = r .before .before .before in
     let old = s .args .text .now in
     let from = s .args .from in
-    let ys = r .read .last .1 .0 in
-    (
+    let ys = r .read .last .1 .0 in (
       within from _ old (putMid from (length old - from) old ys) (same-len-mid from (length old - from) old ys (r .read .kept .1 .0)) (s .pre) (c .count .ensures .0 .0),
       take-put from (length old - from) old ys (s .pre),
     )
