@@ -24,7 +24,7 @@ use Rattle.plan_rules.specs.declared.Plan.{Plan}
 use Rattle.patterns.specs.Calls.{rankOf}
 use Rattle.text_entries.specs.Entries.{entriesOf}
 use Rattle.text_entries.specs.Pieces.{EntriesIs}
-use Rattle.text_entries.proofs.Given.{given, given-long, given-front}
+use Rattle.text_entries.proofs.Read.{given, given-long, given-front}
 use Rattle.asking.specs.Questions.{oneLine, patternLeg, ofPattern, entriesAsked, patternAsked}
 use Rattle.text_entries.specs.declared.Entries.{Entries}
 use Rattle.words.proofs.Told.{refused-on}

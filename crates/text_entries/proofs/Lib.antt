@@ -1,5 +1,5 @@
 pub mod Cutting
 pub mod Back
-pub mod Given
 pub mod Places
+pub mod Read
 pub mod Contracts

@@ -58,6 +58,13 @@ ports-few : (n : ℕ) (p : List ℕ) → n ≤ largest64 → EachPort n p → Ea
 ports-few n [] h e = tt
 ports-few n (x ∷ p) h e = (omega (arith, e .1), ports-few n p h (e .2))
 
+-- ---- before any ports
+
+-- every line but one of ports is 7
+pub before-ports : (t : List ℕ) → length t ≤ mostLine → begins portsKey t ≡ false → lineOf 0 t ≡ refused 7 nowhere
+unfolding lineOf keyedOf
+before-ports t l e = rw (le-ltb mostLine (length t) l, e)
+
 -- ---- good lines
 
 module _ (n : ℕ) (low : 2 ≤ n) (high : n ≤ mostPorts) where

@@ -3,12 +3,13 @@
 -- Assumes nothing.
 use mathlib.Core.Path.{_≡_, refl, sym, ap, subst, _∙_}
 use mathlib.Core.Bool.{Bool, true, false, cond, true≢false}
+use mathlib.Core.Logic.{_≢_}
 use mathlib.Core.List.{List}
 use Prim.Native.Nat.{ℕ, _≤_, _<_}
 use native.Mathlib.Omega.{arith}
 use lib.Dec.{ltb, eqb}
 use lib.ListN.{length}
-use borrow.Author.Tests.{lt-ltb, ltb-true, eq-eqb, eqb-true}
+use borrow.Author.Tests.{lt-ltb, ltb-true, eq-eqb, ne-eqb, eqb-true}
 use Rattle.listing.specs.Count.{count}
 use Rattle.listing.specs.Pattern.{Derangement}
 use Rattle.listing.specs.Listing.{at}
@@ -42,6 +43,11 @@ below-accepted n r told a e = by (ltb r (count n)) refl e
     by false q e = absurd (not-both e)
 
 -- ---- each name for itself
+
+-- entries of which there are more or fewer than ports are no pattern of so many: 8
+pub wrong-count : (n : ℕ) (p : List ℕ) → length p ≢ n → byPattern n p ≡ refused 8 nowhere
+unfolding byPattern
+wrong-count n p h = rw (ne-eqb (length p) n h)
 
 -- the names of the pattern with a rank begin with that rank
 pub rank-said : (n r : ℕ) → r < count n

@@ -21,7 +21,7 @@ use Rattle.words.proofs.Told.{not-both}
 use Rattle.text_numbers.specs.Decimal.{numberUpTo}
 use Rattle.text_entries.specs.Entries.{entriesIn, entryByte, fewEntries, entriesOf}
 use Rattle.text_entries.specs.Pieces.{EntriesIs}
-use Rattle.text_entries.proofs.Given.{given, given-long, given-front}
+use Rattle.text_entries.proofs.Read.{given, given-long, given-front}
 use Rattle.text_entries.specs.declared.Entries.{Entries}
 use Rattle.line_format.specs.Calls.{over}
 use Rattle.pattern_check.specs.Calls.{sized}

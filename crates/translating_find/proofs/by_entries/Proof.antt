@@ -7,7 +7,7 @@ use lib.ListN.{length}
 use lib.Seq.{length-take-le}
 use borrow.Author.Needs.{needs}
 use Rattle.words.specs.Meaning.{refusalOf, outcomeTold}
-use Rattle.text_entries.proofs.Given.{entries-within}
+use Rattle.text_entries.proofs.Read.{entries-within}
 use Rattle.line_putting.proofs.Putting.{puts-front}
 use Rattle.translating_find.proofs.Found.{no-entries, wrong-count, right-count}
 use Rattle.translating_find.proofs.by_entries.Statement.{statement}

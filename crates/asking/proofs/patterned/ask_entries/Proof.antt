@@ -6,7 +6,7 @@ use lib.Seq.{length-take-le}
 use borrow.Author.Needs.{needs}
 use Rattle.words.specs.Meaning.{outcomeTold, numberedTold}
 use Rattle.asking.specs.Answers.{QuestionIs}
-use Rattle.text_entries.proofs.Given.{entries-few, entries-within}
+use Rattle.text_entries.proofs.Read.{entries-few, entries-within}
 use Rattle.asking.proofs.Patterns.{not-entries, unranked, ranked}
 use Rattle.asking.proofs.patterned.ask_entries.Statement.{statement}
 use Rattle.asking.proofs.patterned.ask_entries.Tie as tie
