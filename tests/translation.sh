@@ -218,13 +218,19 @@ translation_page() {
         fail 'translation: the commands of docs/NUMBERS.md do not lead there and back'
     fi
     sed -n '/^    if bin\/translate/,/^    fi$/s/^    //p' "$root/docs/NUMBERS.md" >desk/script
-    printf 'ports=4\nrank=8\npattern=2,1,3,4\n' >desk/refused
+    printf 'ports=5\nrank=9\npattern=5,3,2,1,3\n' >desk/refused
     script_on() { (cd desk && cp "$1" numbers.txt && sh ./script) 2>&1; }
-    if [ "$(script_on "$root/examples/lab/numbers" | head -n 1)" = rank=8 ] && [ "$(script_on refused)" = 'not translated: refused=5 at=3' ] &&
-        bin/translate desk/refused >refused; [ $? -eq 65 ] && shown refused; then
-        pass 'translation: the script of docs/NUMBERS.md does what it says, and a refused line is printed as it shows'
+    if [ "$(script_on "$root/examples/lab/numbers" | head -n 1)" = rank=8 ] && [ "$(script_on refused)" = 'not translated: refused=4 at=3' ]; then
+        pass 'translation: the script of docs/NUMBERS.md does what it says'
     else
-        fail 'translation: the script of docs/NUMBERS.md does something else, or a refused line is printed in another way'
+        fail 'translation: the script of docs/NUMBERS.md does something else'
+    fi
+    bin/translate --words desk/refused >printed 2>said
+    if [ $? -eq 65 ] && shown printed && shown said && grep -qF 'Of the lines `ports=5`, `rank=9` and `pattern=5,3,2,1,3`:' "$root/docs/NUMBERS.md"; then
+        pass 'translation: a refused line of docs/NUMBERS.md is printed, and said in words, as it shows'
+    else
+        cat printed said
+        fail 'translation: a refused line of docs/NUMBERS.md is printed or said in another way'
     fi
 }
 
