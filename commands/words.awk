@@ -51,13 +51,13 @@ function last_line() { return 2 + 2 * legs() }
 function unended() { return place + first == NR && whole > bytes }
 
 function ports_words() { return "the ports are not 2 to 20" }
-function count_words(what) { return "the " what " is not below the count: for " ports() " ports the " (what == "start" ? "rank" : what) "s are 0 to " highest_rank(ports()) }
+function count_words(what, kind) { return "the " what " is not below the count: for " ports() " ports the " kind "s are 0 to " highest_rank(ports()) }
 function number_words(which) { return which " number is not plain decimal, or it is above 64 bits" }
 function unended_words() { return "the last line has no newline" }
 
 function plan_words() {
     if (number == 1) return ports_words()
-    if (number == 6) return count_words("start")
+    if (number == 6) return count_words("start", "rank")
     if (number == 7) return "the key is not the one due here, " key_due(place)
     if (number == 8) return number_words("the")
     if (number == 9) return "the legs are not 1 to 16"
@@ -75,7 +75,7 @@ function ended_words() {
 
 function rank_words() {
     if (number == 1) return ports_words()
-    if (number == 6) return count_words("rank")
+    if (number == 6) return count_words("rank", "rank")
     return number_words("a")
 }
 
@@ -115,8 +115,9 @@ function cut_off_words(n) {
 function line_words(  key) {
     key = substr(here, 1, index(here, "="))
     if (number == 1) return ports_words()
-    if (number == 6) return count_words(substr(key, 1, length(key) - 1))
-    if (number == 7) return key ~ /^(rank|number|pattern)=$/ ? "no ports= came before this line" : "the key is none of ports=, rank=, number=, pattern="
+    if (number == 6) return key == "rank=" ? count_words("rank", "rank") : count_words("number", "number")
+    if (number == 7 && held == 0 && key ~ /^(rank|number|pattern)=$/) return "no ports= came before this line"
+    if (number == 7) return "the key is none of ports=, rank=, number=, pattern="
     if (number == 11) return unended_words()
     if (key == "ports=" || held > 0 && (key == "rank=" || key == "number=")) return number_words("the")
     return held > 0 && key == "pattern=" ? pattern_words(jack) : long_words()

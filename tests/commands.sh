@@ -58,6 +58,7 @@ lines_file long-count 'pattern=2,1,4,3,6,5,8,7,10,9,12,11,14,13,16,15,18,17,20,1
 lines_file long-few 'ports=20\npattern=100,100,100,100,100,100,100,100,100,100,100,100,100,100\n'
 lines_file long-rank "rank=$(head -c 54 /dev/zero | tr '\0' 1)\n"
 lines_file nul 'pattern=5,4,2,3,1\000\n'
+lines_file nul-key 'ra\000nk=0\n'
 lines_file long-unended "$(head -c 59 /dev/zero | tr '\0' x)"
 lines_file long-entries 'ports=20\npattern=21,1,4,3,6,5,8,7,10,9,12,11,14,13,16,15,18,17,20,19\n'
 lines_file long-return 'ports=20\npattern=2,1,4,3,6,5,8,7,10,9,12,11,14,13,16,15,18,17,20,19\r\n'

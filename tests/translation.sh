@@ -1,7 +1,7 @@
-# The translator beside the reference: bin/translate prints what a plain Rust program over the reference prints (tests/reference/translate.rs), byte for byte and with
-# the same status, of texts good and damaged, in one piece and in many; numbers there and back are the same; a text of any length takes no more memory than a
-# short one, and what is translated is printed while more is waited for; the page for labs shows what is printed. How the command ends otherwise, and its words, are
-# in commands.sh.
+# The translator beside the reference: bin/translate prints what a plain Rust program over the reference prints (tests/reference/translate.rs), byte for byte and
+# with the same status, of texts good and damaged, in one piece and in many; numbers there and back are the same; a text of any length takes no more memory than a
+# short one, and what is translated is printed while more is waited for; the page for labs shows what is printed. How the command ends otherwise, and its words,
+# are in commands.sh.
 type reference_library >/dev/null 2>&1 || . "$root/tests/reference/build.sh"
 translation_out=$root/target/translation
 rm -rf "$translation_out"
@@ -27,7 +27,7 @@ translation_same() {
     fi
 }
 
-# translation_each TEXT..: what the command prints of each text, and its status, in TEXT.found: as bin/translate does it, but that the program is looked up once for all
+# translation_each TEXT..: what the command prints of each text, and its status, in TEXT.found: as bin/translate does it, but that the program is looked up once
 translation_each() (
     eval "$(grep -E '^(name|what|asked|own_options)=' "$root/bin/translate")"
     usage() { :; }
@@ -188,7 +188,8 @@ FIRST
 
 # shown FILE: the page has the lines of a file, one after the other, as it has examples
 shown() {
-    [ -s "$1" ] && LC_ALL=C awk 'NR == FNR { want = want "    " $0 "\n"; next } { page = page $0 "\n" } END { exit !index("\n" page, "\n" want) }' "$1" "$root/docs/NUMBERS.md"
+    [ -s "$1" ] || return 1
+    awk 'NR == FNR { want = want "    " $0 "\n"; next } { page = page $0 "\n" } END { exit !index("\n" page, "\n" want) }' "$1" "$root/docs/NUMBERS.md"
 }
 translation_page() {
     translation_same 'examples/lab/numbers' "$root/examples/lab/numbers" bin/translate "$root/examples/lab/numbers"
