@@ -14,7 +14,7 @@ use Rattle.listing.specs.Rank.{rank}
 use Rattle.listing.specs.Limits.{mostPorts, mostLegs}
 use Rattle.listing.proofs.Numbers.{either, below?}
 use Rattle.promise.specs.Plan.{Leg, marks}
-use Rattle.words.specs.Told.{Told, accepted, refused, nowhere, then}
+use Rattle.words.specs.Told.{accepted, refused, nowhere, then}
 use Rattle.words.specs.Meaning.{outcomeTold}
 use Rattle.text_keys.specs.Parts.{begins}
 use Rattle.pattern_check.specs.Calls.{checkOf}

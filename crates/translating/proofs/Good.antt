@@ -3,13 +3,13 @@
 -- length alone (`only-length`). What a line leaves are ports so far (`line-ports`), and what it prints has at most 109 bytes (`line-109`).
 -- Assumes nothing.
 use mathlib.Core.Path.{_≡_, refl, sym, ap, subst, _∙_}
-use mathlib.Core.Bool.{Bool, true, false, cond, true≢false}
+use mathlib.Core.Bool.{Bool, true, false, cond}
 use mathlib.Core.Logic.{_≢_}
 use mathlib.Core.List.{List, [], _∷_, _++_, map}
-use mathlib.Core.Option.{Option, none, some}
-use Prim.Native.Nat.{ℕ, suc, _+_, _^_, _≤_, _<_}
+use mathlib.Core.Option.{none, some}
+use Prim.Native.Nat.{ℕ, _+_, _^_, _≤_, _<_}
 use native.Mathlib.Omega.{arith}
-use lib.Dec.{eqb, leb, ltb}
+use lib.Dec.{eqb, ltb}
 use lib.ListN.{length, drop, length-append}
 use borrow.Author.Tests.{le-ltb, eqb-false}
 use Rattle.listing.specs.Count.{count}
@@ -31,7 +31,7 @@ use Rattle.text_entries.proofs.Back.{entries-text}
 use Rattle.text_entries.proofs.Places.{small-entry, large-entry}
 use Rattle.pattern_check.specs.Calls.{inSize, sized}
 use Rattle.pattern_check.proofs.Calls.{size-within}
-use Rattle.translating.specs.Names.{Named, names, byRank, byNumber, byPattern, rankKey, numberKey, patternKey, namesText, mostNames}
+use Rattle.translating.specs.Names.{Named, byRank, byNumber, byPattern, rankKey, numberKey, patternKey, namesText, mostNames}
 use Rattle.translating.specs.Lines.{portsKey, mostLine, numbered, namedOf, Went, SoFar, portsOf, keyedOf, lineOf}
 use Rattle.translating.proofs.Names.{Names, rank-names, number-names, pattern-names}
 use Rattle.translating.proofs.Longest.{entries-50, entries-full, names-109}

@@ -1,16 +1,15 @@
 -- The lines that are translated: every rank and every number below the count, and every pattern, each in its line (`rank-line`, `number-line`, `pattern-line`);
 -- all three lines of one pattern print the same (`three-ways`). What a line that goes leaves and prints (`line-ports`, `line-short`).
 -- Assumes nothing.
-use mathlib.Core.Path.{_≡_, refl, sym, ap, subst, _∙_}
-use mathlib.Core.Bool.{Bool, true, false, cond, true≢false}
+use mathlib.Core.Path.{_≡_, refl, sym, ap, _∙_}
+use mathlib.Core.Bool.{false}
 use mathlib.Core.Logic.{_≢_}
 use mathlib.Core.List.{List, [], _∷_, _++_, map}
-use mathlib.Core.Option.{Option, none, some}
+use mathlib.Core.Option.{some}
 use Prim.Native.Nat.{ℕ, suc, _+_, _^_, _≤_, _<_}
 use native.Mathlib.Omega.{arith}
-use lib.Dec.{eqb, leb, ltb}
-use lib.ListN.{length, getD, drop, length-append}
-use borrow.Author.Tests.{le-ltb, ne-eqb, le-leb}
+use lib.ListN.{length, getD, length-append}
+use borrow.Author.Tests.{le-ltb, ne-eqb}
 use Rattle.listing.specs.Count.{count}
 use Rattle.listing.specs.Pattern.{Derangement}
 use Rattle.listing.specs.Listing.{at}
@@ -21,7 +20,7 @@ use Rattle.listing.proofs.Ranks.{rank-below}
 use Rattle.listing_dictionary.specs.Dictionary.{inDictionary}
 use Rattle.listing_dictionary.specs.Number as dictionary
 use Rattle.listing_dictionary.proofs.Dictionary.{number-count}
-use Rattle.words.specs.Told.{Told, accepted, refused, nowhere, then, need}
+use Rattle.words.specs.Told.{accepted, refused, nowhere}
 use Rattle.text_numbers.specs.Decimal.{digitsOf, numberUpTo}
 use Rattle.text_numbers.proofs.Lengths.{digits-at-most}
 use Rattle.text_numbers.proofs.Limits.{number-up-to}
@@ -29,8 +28,8 @@ use Rattle.text_keys.specs.Parts.{begins}
 use Rattle.text_entries.specs.Entries.{entriesText, entriesIn, entryByte}
 use Rattle.text_entries.proofs.Back.{EachUpTo, entries-back}
 use Rattle.text_entries.proofs.Places.{small-entry}
-use Rattle.translating.specs.Names.{Named, names, byRank, byNumber, byPattern, rankKey, numberKey, patternKey, namesText, mostNames}
-use Rattle.translating.specs.Lines.{portsKey, mostLine, numbered, namedOf, Went, portsOf, keyedOf, lineOf}
+use Rattle.translating.specs.Names.{Named, names, byRank, byNumber, byPattern, rankKey, numberKey, patternKey, namesText}
+use Rattle.translating.specs.Lines.{portsKey, mostLine, namedOf, keyedOf, lineOf}
 use Rattle.translating.proofs.Names.{rank-said, number-said, pattern-said, by-its-rank, by-its-number}
 use Rattle.translating.proofs.Longest.{entries-50}
 

@@ -2,7 +2,6 @@
 -- (`entries-full`). So a line of names has at most 109 bytes (`names-109`).
 -- Assumes nothing.
 use mathlib.Core.Path.{_≡_, refl, sym, ap, _∙_}
-use mathlib.Core.Logic.{inl, inr}
 use mathlib.Core.List.{List, [], _∷_, _++_, map}
 use Prim.Native.Nat.{ℕ, zero, suc, _+_, _-_, _^_, _≤_, _<_}
 use native.Mathlib.Omega.{arith}
@@ -26,7 +25,7 @@ use Rattle.text_numbers.specs.Decimal.{spell, digitsOf}
 use Rattle.text_numbers.proofs.Lengths.{digits-at-most}
 use Rattle.text_keys.specs.Parts.{newline, comma}
 use Rattle.text_entries.specs.Entries.{following, joined, entriesText}
-use Rattle.translating.specs.Names.{Named, names, rankKey, numberKey, patternKey, space, namesText, mostNames}
+use Rattle.translating.specs.Names.{names, rankKey, numberKey, patternKey, space, namesText, mostNames}
 
 -- how many digits a port has
 abbrev places : ℕ → ℕ

@@ -3,21 +3,20 @@
 -- left (`nothing-left`), or a line without its newline (`left-over`); a line that is too long is refused by whether its newline comes (`too-long`).
 -- Assumes nothing.
 use mathlib.Core.Path.{_≡_, refl, sym, ap, _∙_}
-use mathlib.Core.Bool.{Bool, true, false, cond}
 use mathlib.Core.List.{List, [], _∷_, _++_, append-assoc, append-nil}
 use mathlib.Core.Option.{Option, none, some}
 use Prim.Native.Nat.{ℕ, suc, _+_, _≤_, _<_}
 use native.Mathlib.Omega.{arith}
 use lib.ListN.{length, take, drop, length-append}
 use borrow.Author.Tests.{lt-ltb}
-use Rattle.words.specs.Told.{Told, Spot, accepted, refused, nowhere}
+use Rattle.words.specs.Told.{Spot, accepted, refused, nowhere}
 use Rattle.text_keys.specs.Parts.{newline, firstOf, around}
 use Rattle.text_keys.proofs.Cuts.{CutAt, cut-parts, first-append}
 use Rattle.text_entries.specs.Entries.{pieces}
 use Rattle.text_entries.proofs.Cutting.{one-piece, first-piece}
 use Rattle.text_entries.proofs.Back.{some-piece}
 use Rattle.line_refusal.specs.Text.{refusalText}
-use Rattle.translating.specs.Lines.{mostLine, Went, keyedOf, lineOf}
+use Rattle.translating.specs.Lines.{mostLine, Went, lineOf}
 use Rattle.translating.specs.Whole.{endText, wentText, translated, printedOf, Onward, overlong}
 
 -- ---- the first line

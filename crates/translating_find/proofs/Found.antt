@@ -7,7 +7,7 @@ use mathlib.Core.List.{List, [], _∷_, _++_, append-nil, map}
 use mathlib.Core.Option.{Option, none, some}
 use Prim.Native.Nat.{ℕ, _+_, _≤_, _<_}
 use native.Mathlib.Omega.{arith}
-use lib.Dec.{eqb, ltb, leb}
+use lib.Dec.{ltb}
 use lib.ListN.{length, take, drop, length-map, drop-of-length-le}
 use borrow.Author.Tests.{eq-eqb, ne-eqb, le-leb, lt-leb}
 use Rattle.listing.specs.Count.{count}
@@ -28,7 +28,6 @@ use Rattle.pattern_check.specs.Calls.{sized}
 use Rattle.pattern_check.proofs.Calls.{fits}
 use Rattle.patterns.specs.Calls.{ranked, unrankOf, unrankBytes}
 use Rattle.dictionary.specs.Calls.{listedOf, dictionaryPatternOf, dictionaryPatternBytes}
-use Rattle.translating.specs.Lines.{numbered}
 use Rattle.translating_find.specs.Pieces.{inOrder, counted, inEntries, foundTold, foundBytes}
 
 -- what was told of a pattern and the bytes left

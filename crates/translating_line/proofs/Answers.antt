@@ -1,9 +1,9 @@
 -- What was told of a line, and the bytes left: a refusal leaves them as they were (`goes-refused`), and so does a line without text (`goes-silent`).
 -- Assumes nothing.
 use mathlib.Core.Path.{_≡_, refl, subst}
-use mathlib.Core.List.{List, []}
+use mathlib.Core.List.{List}
 use Prim.Native.Nat.{ℕ}
-use Rattle.words.specs.Told.{Told, Spot, accepted, refused}
+use Rattle.words.specs.Told.{Told, Spot, refused}
 use Rattle.line_format.specs.Calls.{over}
 use Rattle.translating.specs.Lines.{Went}
 use Rattle.translating_line.specs.Answers.{wentTold, textIn}

@@ -2,7 +2,7 @@
 -- room for their line (`names-room`), which is written (`named`).
 -- Assumes nothing.
 use mathlib.Core.Path.{_≡_, refl, sym, ap, subst, _∙_}
-use mathlib.Core.List.{List, []}
+use mathlib.Core.List.{List}
 use Prim.Native.Nat.{ℕ, _≤_}
 use native.Mathlib.Omega.{arith}
 use lib.ListN.{length}
@@ -13,7 +13,7 @@ use Rattle.words.specs.Told.{Told, Spot, accepted, refused, then}
 use Rattle.words.proofs.Told.{accepted-once, then-accepted, refused-on}
 use Rattle.line_format.specs.Calls.{over}
 use Rattle.pattern_check.specs.Calls.{checkOf}
-use Rattle.pattern_check.proofs.Accepted.{Pattern, accepted-pattern}
+use Rattle.pattern_check.proofs.Accepted.{accepted-pattern}
 use Rattle.patterns.specs.Calls.{rankOf}
 use Rattle.dictionary.specs.Calls.{dictionaryNumberOf}
 use Rattle.translating.specs.Names.{Named, names, namesText, mostNames}

@@ -1,20 +1,19 @@
 -- What one line of a text from a place on comes to: that it has no newline, and the places of a line that has one (`no-newline`, `inside`); that it went
 -- (`line-went`), with room for its text (`line-room`), or was refused (`line-refused`).
 -- Assumes nothing.
-use mathlib.Core.Path.{_≡_, refl, sym, ap, subst, _∙_}
+use mathlib.Core.Path.{_≡_, refl, sym, ap, _∙_}
 use mathlib.Core.List.{List, _++_}
-use mathlib.Core.Option.{Option, none, some}
+use mathlib.Core.Option.{Option, some}
 use Prim.Native.Nat.{ℕ, _+_, _-_, _≤_, _<_}
 use native.Mathlib.Omega.{arith}
 use lib.ListN.{length, take, drop, length-drop}
 use borrow.Rule.Slice.PartMut.{midOf, putMid, put-same}
-use Rattle.words.specs.Told.{Told, Spot, accepted, refused, then}
+use Rattle.words.specs.Told.{Told, Spot, accepted, refused}
 use Rattle.words.proofs.Told.{not-both, accepted-once}
 use Rattle.text_keys.specs.Parts.{newline, firstOf}
 use Rattle.text_keys.proofs.Cuts.{first-inside, to-the-end}
 use Rattle.line_format.specs.Calls.{over}
 use Rattle.line_sentence.proofs.Writing.{part-whole, part-put}
-use Rattle.line_putting.specs.Putting.{Puts}
 use Rattle.translating.specs.Names.{mostNames}
 use Rattle.translating.specs.Lines.{Went, SoFar, lineOf}
 use Rattle.translating.proofs.Good.{line-109}

@@ -1,12 +1,12 @@
 -- `console::read_more`: what was read lies in the buffer from the place on, and what stands before the place stays.
 -- Assumes nothing.
-use mathlib.Core.Path.{_≡_, ap, _∙_}
+use mathlib.Core.Path.{_≡_, _∙_}
 use mathlib.Core.List.{List}
 use Prim.Native.Nat.{ℕ, _+_, _-_, _≤_}
 use native.Mathlib.Omega.{arith}
 use lib.ListN.{length, take, drop, length-take, length-drop}
 use borrow.Author.Needs.{needs}
-use borrow.Rule.Slice.PartMut.{midOf, putMid, same-len-mid, take-put}
+use borrow.Rule.Slice.PartMut.{putMid, same-len-mid, take-put}
 use Rattle.console.proofs.read_more.Statement.{statement}
 use Rattle.console.proofs.read_more.Tie as tie
 

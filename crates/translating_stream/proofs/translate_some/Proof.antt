@@ -1,6 +1,6 @@
 -- `translating_stream::translate_some`: the lines before `used` are taken, and their texts stand before `len` in the buffer. Each turn passes a newline.
 -- Assumes nothing.
-use mathlib.Core.Path.{_≡_, refl, sym, ap, subst, _∙_}
+use mathlib.Core.Path.{_≡_, refl, subst, _∙_}
 use Prim.Native.Nat.{_-_}
 use native.Mathlib.Omega.{arith}
 use lib.ListN.{length}
