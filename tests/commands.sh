@@ -199,8 +199,7 @@ named plans/overlap-6
 translate $T/lines-port-twice
 PRINTS
 # a signal to the command alone ends the program too: orders that are printed, lines that are waited for
-printing() { grep -sq "$root/target/bin/[o]rders" /proc/[0-9]*/cmdline; }
-waiting() { grep -sq "$root/target/bin/[t]ranslate" /proc/[0-9]*/cmdline; }
+
 # within LIMIT COMMAND..: the command succeeds, within so many tenths of a second
 within() {
     tries=$1
@@ -211,25 +210,37 @@ within() {
         sleep 0.1
     done
 }
-# interrupted LABEL RUNNING SIGNAL STATUS: the command that was started last, once RUNNING sees its program, ends with that status by a signal
+# started NAME: the program of that name which the command $one has started is there, the process $program; others of the same name may run beside it
+started() {
+    for process in $(grep -sl "$root/target/bin/$1" /proc/[0-9]*/cmdline); do
+        program=${process%/cmdline}
+        ! grep -qsx "PPid:[[:space:]]*$one" "$program/status" || return 0
+    done
+    program=''
+    return 1
+}
+# gone: that process has ended
+gone() { [ ! -e "$program/stat" ] || grep -qs ') Z ' "$program/stat"; }
+# interrupted LABEL NAME SIGNAL STATUS: the command of that name, which was started last, ends with that status by a signal while its program runs
 interrupted() {
     one=$!
-    within 100 "$2" && kill -s "$3" "$one"
+    within 100 started "$2"
+    kill -s "$3" "$one"
     wait "$one"
     ended=$?
-    if [ "$ended" -eq "$4" ] && within 20 eval "! $2"; then
+    if [ "$ended" -eq "$4" ] && [ -n "$program" ] && within 20 gone; then
         pass "commands: $4: $1, and nothing runs on"
     else
         fail "commands: $1: not with $4 but $ended, or something runs on"
     fi
 }
 env --default-signal=INT,TERM bin/orders --quiet "$T/circuit-20" >/dev/null &
-interrupted 'Ctrl-C ends a print' printing INT 130
+interrupted 'Ctrl-C ends a print' orders INT 130
 mkfifo "$T/lines"
 for signal in INT,130 TERM,143 HUP,129; do
     env --default-signal=INT,TERM,HUP bin/translate --quiet <"$T/lines" >"$T/out" &
     exec 8>"$T/lines"
-    interrupted "${signal%,*} ends a translation that waits for more" waiting "${signal%,*}" "${signal#*,}"
+    interrupted "${signal%,*} ends a translation that waits for more" translate "${signal%,*}" "${signal#*,}"
     exec 8>&-
 done
 # nothing is left among temporary files
