@@ -133,6 +133,7 @@ trap leave EXIT
 trap 'exit 129' HUP
 trap 'exit 130' INT
 trap 'exit 143' TERM
+trap 'exit "$pipe_gone"' PIPE
 workplace() {
     [ -n "$work" ] || work=$(mktemp -d 2>/dev/null) || give_up "$unwritable" "no room for temporary files in ${TMPDIR:-/tmp}"
 }

@@ -252,5 +252,6 @@ TMPDIR=$T/room bin/named --words plans/example >/dev/null 2>&1
 TMPDIR=$T/room no_reader bin/named plans/example
 TMPDIR=$T/room bin/translate --words "$T/lines-own-port" >/dev/null 2>&1
 { echo ports=5 && yes rank=9; } | TMPDIR=$T/room no_reader bin/translate
+{ sleep 0.5 && TMPDIR=$T/room bin/translate "$T/none"; } 2>&1 | true
 if [ -z "$(ls "$T/room")" ]; then pass 'commands: no temporary file is left'; else fail 'commands: temporary files are left'; fi
 rm -rf "$commands_out"
