@@ -22,8 +22,8 @@ use Rattle.pattern_check.specs.Calls.{checkOf}
 use Rattle.pattern_check.proofs.Calls.{fits}
 use Rattle.pattern_check.proofs.Accepted.{pattern-accepted}
 use Rattle.patterns.proofs.Calls.{is-rank}
-use Rattle.dictionary.specs.Calls.{dictionaryNumberOf, listedOf, dictionaryNextBytes, numberToRankOf, rankToNumberOf}
-use Rattle.dictionary.proofs.Told.{number-accepted, next-accepted, pattern-told}
+use Rattle.dictionary_laws.specs.Calls.{dictionaryNumberOf, listedOf, dictionaryNextBytes, numberToRankOf, rankToNumberOf}
+use Rattle.dictionary_laws.proofs.Told.{number-accepted, next-accepted, pattern-told}
 use Rattle.demands.specs.Dictionary.{Translated, DictionaryNumbers}
 
 module _ (n : ℕ) (few : 2 ≤ n) (many : n ≤ mostPorts) where

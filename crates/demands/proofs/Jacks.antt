@@ -18,7 +18,7 @@ use Rattle.pattern_check.specs.Jacks.{Second}
 use Rattle.pattern_check.proofs.Alone.{check-alone}
 use Rattle.pattern_check.proofs.Jacks.{none-second, check-second}
 use Rattle.patterns.specs.Calls.{rankOf, besideOf}
-use Rattle.dictionary.specs.Calls.{dictionaryNumberOf}
+use Rattle.dictionary_laws.specs.Calls.{dictionaryNumberOf}
 use Rattle.panel.specs.Calls.{onPanel, portOf, jackOf, carryOf}
 use Rattle.campaign_state.specs.Fitness.{fit}
 use Rattle.campaign_state.specs.declared.State.{State}

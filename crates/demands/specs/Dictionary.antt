@@ -11,8 +11,8 @@ use Rattle.listing.specs.Limits.{mostPorts}
 use Rattle.listing_dictionary.specs.Order.{Sorted}
 use Rattle.listing_dictionary.specs.Dictionary.{dictionary, inDictionary}
 use Rattle.words.specs.Told.{accepted}
-use Rattle.dictionary.specs.Calls.{dictionaryNumberOf, dictionaryPatternOf, dictionaryPatternBytes, dictionaryNextOf, dictionaryNextBytes}
-use Rattle.dictionary.specs.Calls.{numberToRankOf, rankToNumberOf}
+use Rattle.dictionary_laws.specs.Calls.{dictionaryNumberOf, dictionaryPatternOf, dictionaryPatternBytes, dictionaryNextOf, dictionaryNextBytes}
+use Rattle.dictionary_laws.specs.Calls.{numberToRankOf, rankToNumberOf}
 
 -- number k and rank r are those of one pattern, and each is told of the other: 'Translating there and back must return the number'
 pub record Translated (n k r : ℕ) : Type 0 where

@@ -17,7 +17,7 @@ use Rattle.pattern_check.specs.Calls.{checkAs, paperCheck}
 use Rattle.pattern_check.specs.Jacks.{Second}
 use Rattle.patterns.specs.Calls.{rankOf, besideOf}
 use Rattle.listing_dictionary.specs.Number.{number}
-use Rattle.dictionary.specs.Calls.{dictionaryNumberOf, dictionaryNextOf}
+use Rattle.dictionary_laws.specs.Calls.{dictionaryNumberOf, dictionaryNextOf}
 use Rattle.panel.specs.Calls.{portOf, jackOf, carryOf}
 use Rattle.campaign_state.specs.declared.State.{State}
 use Rattle.campaign_onward.specs.Calls.{fitTold, resumeOf}

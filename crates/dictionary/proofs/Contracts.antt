@@ -5,8 +5,8 @@ use denote.Ref.{now}
 use Rattle.listing.specs.Limits.{mostPorts}
 use Rattle.words.specs.Contract.{Says}
 use Rattle.words.specs.Meaning.{numberedTold, outcomeTold}
-use Rattle.dictionary.specs.Calls.{dictionaryNumberOf, dictionaryPatternOf, dictionaryPatternBytes, dictionaryNextOf, dictionaryNextBytes}
-use Rattle.dictionary.specs.Calls.{numberToRankOf, rankToNumberOf}
+use Rattle.dictionary_laws.specs.Calls.{dictionaryNumberOf, dictionaryPatternOf, dictionaryPatternBytes, dictionaryNextOf, dictionaryNextBytes}
+use Rattle.dictionary_laws.specs.Calls.{numberToRankOf, rankToNumberOf}
 use Rattle.dictionary.proofs.numbering.number.Reads as number
 use Rattle.dictionary.proofs.numbering.numbered.Reads as numbered
 use Rattle.dictionary.proofs.onward.next.Reads as next

@@ -8,8 +8,8 @@ use Rattle.words.specs.Meaning.{numberedTold, outcomeTold}
 use Rattle.words.specs.declared.Outcome.{Outcome}
 use Rattle.words.specs.declared.Numbered.{Numbered}
 use Rattle.words.proofs.Once.{outcome-once, numbered-once}
-use Rattle.dictionary.specs.Calls.{dictionaryNumberOf, dictionaryPatternOf, dictionaryPatternBytes, dictionaryNextOf, dictionaryNextBytes}
-use Rattle.dictionary.specs.Calls.{numberToRankOf, rankToNumberOf}
+use Rattle.dictionary_laws.specs.Calls.{dictionaryNumberOf, dictionaryPatternOf, dictionaryPatternBytes, dictionaryNextOf, dictionaryNextBytes}
+use Rattle.dictionary_laws.specs.Calls.{numberToRankOf, rankToNumberOf}
 
 pub only-number : (p : List ℕ) (r s : Numbered) → numberedTold r ≡ dictionaryNumberOf mostPorts p → numberedTold s ≡ dictionaryNumberOf mostPorts p → r ≡ s
 only-number p r s e f = numbered-once r s (e ∙ sym f)

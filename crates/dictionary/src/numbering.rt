@@ -11,7 +11,7 @@ use words::refusals::nowhere;
 ghost use mathlib.Core.Path.{_≡_};
 ghost use Rattle.words.specs.Meaning.{numberedTold, outcomeTold};
 ghost use Rattle.listing.specs.Limits.{mostPorts};
-ghost use Rattle.dictionary.specs.Calls.{dictionaryNumberOf, listedOf, dictionaryPatternOf, dictionaryPatternBytes};
+ghost use Rattle.dictionary_laws.specs.Calls.{dictionaryNumberOf, listedOf, dictionaryPatternOf, dictionaryPatternBytes};
 
 // The dictionary number of a pattern.
 pub fn number(p: &[u8]) -> Numbered

@@ -10,7 +10,7 @@ ghost use Rattle.words.specs.Meaning.{outcomeTold};
 ghost use Rattle.listing.specs.Count.{count};
 ghost use Rattle.listing.specs.Limits.{mostPorts};
 ghost use Rattle.listing.specs.Neighbours.{nextRank};
-ghost use Rattle.dictionary.specs.Calls.{dictionaryNextOf, dictionaryNextBytes};
+ghost use Rattle.dictionary_laws.specs.Calls.{dictionaryNextOf, dictionaryNextBytes};
 
 // The number after a number, and 0 after the last.
 fn number_after(n: u8, number: u64) -> u64

@@ -13,7 +13,7 @@ ghost use lib.ListN.{length};
 ghost use Rattle.words.specs.Meaning.{numberedTold};
 ghost use Rattle.words.specs.Told.{accepted};
 ghost use Rattle.listing.specs.Limits.{mostPorts};
-ghost use Rattle.dictionary.specs.Calls.{listedOf, numberToRankOf, rankToNumberOf, translatedOf};
+ghost use Rattle.dictionary_laws.specs.Calls.{listedOf, numberToRankOf, rankToNumberOf, translatedOf};
 
 // The number of the pattern of a rank, or the rank of the pattern of a number, in room for the pattern.
 fn translate_in(ranked: bool, k: u64, room: &mut [u8]) -> Numbered

@@ -5,8 +5,8 @@ use mathlib.Core.List.{[], _∷_}
 use denote.Ref.{now}
 use Rattle.listing.specs.Limits.{mostPorts}
 use Rattle.words.specs.Contract.{Says}
-use Rattle.dictionary.specs.Calls.{dictionaryNumberOf, dictionaryPatternOf, dictionaryPatternBytes, dictionaryNextOf, dictionaryNextBytes}
-use Rattle.dictionary.specs.Calls.{numberToRankOf, rankToNumberOf}
+use Rattle.dictionary_laws.specs.Calls.{dictionaryNumberOf, dictionaryPatternOf, dictionaryPatternBytes, dictionaryNextOf, dictionaryNextBytes}
+use Rattle.dictionary_laws.specs.Calls.{numberToRankOf, rankToNumberOf}
 use Rattle.face_values.specs.Answers.{nothing, oneNumber}
 use Rattle.face_values.specs.Only.{Meets, result}
 use Rattle.face_values.proofs.Meets.{meets, meets-leaving}

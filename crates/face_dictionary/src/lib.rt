@@ -9,8 +9,8 @@ use face_values::answers::give_numbered;
 use face_values::answers::give_outcome;
 ghost use mathlib.Core.Path.{_≡_};
 ghost use Rattle.listing.specs.Limits.{mostPorts};
-ghost use Rattle.dictionary.specs.Calls.{dictionaryNumberOf, dictionaryPatternOf, dictionaryPatternBytes, dictionaryNextOf, dictionaryNextBytes};
-ghost use Rattle.dictionary.specs.Calls.{numberToRankOf, rankToNumberOf};
+ghost use Rattle.dictionary_laws.specs.Calls.{dictionaryNumberOf, dictionaryPatternOf, dictionaryPatternBytes, dictionaryNextOf, dictionaryNextBytes};
+ghost use Rattle.dictionary_laws.specs.Calls.{numberToRankOf, rankToNumberOf};
 ghost use Rattle.face_values.specs.Answers.{numberTold, wordsTold, nothing, oneNumber};
 
 // The dictionary number of a pattern.

@@ -11,8 +11,8 @@ use Rattle.words.specs.Told.{Told}
 use Rattle.promise.specs.Campaign.{request, report, reportOn}
 use Rattle.pattern_check.specs.Calls.{checkAs}
 use Rattle.patterns.specs.Calls.{countOf, rankOf, unrankOf, unrankBytes, besideOf, besideBytes, stepOf}
-use Rattle.dictionary.specs.Calls.{dictionaryNumberOf, dictionaryPatternOf, dictionaryPatternBytes, dictionaryNextOf, dictionaryNextBytes}
-use Rattle.dictionary.specs.Calls.{numberToRankOf, rankToNumberOf}
+use Rattle.dictionary_laws.specs.Calls.{dictionaryNumberOf, dictionaryPatternOf, dictionaryPatternBytes, dictionaryNextOf, dictionaryNextBytes}
+use Rattle.dictionary_laws.specs.Calls.{numberToRankOf, rankToNumberOf}
 use Rattle.panel.specs.Calls.{portOf, jackOf, carryOf, carryBytes}
 use Rattle.line_format.specs.Calls.{writeOf, writeBytes}
 use Rattle.line_format.specs.Reading.{readOf}

@@ -27,7 +27,7 @@ use Rattle.line_format.specs.Calls.{over}
 use Rattle.pattern_check.specs.Calls.{sized}
 use Rattle.pattern_check.proofs.Calls.{fits}
 use Rattle.patterns.specs.Calls.{ranked, unrankOf, unrankBytes}
-use Rattle.dictionary.specs.Calls.{listedOf, dictionaryPatternOf, dictionaryPatternBytes}
+use Rattle.dictionary_laws.specs.Calls.{listedOf, dictionaryPatternOf, dictionaryPatternBytes}
 use Rattle.translating_find.specs.Pieces.{inOrder, counted, inEntries, foundTold, foundBytes}
 
 -- what was told of a pattern and the bytes left

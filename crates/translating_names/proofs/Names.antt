@@ -15,7 +15,7 @@ use Rattle.line_format.specs.Calls.{over}
 use Rattle.pattern_check.specs.Calls.{checkOf}
 use Rattle.pattern_check.proofs.Accepted.{accepted-pattern}
 use Rattle.patterns.specs.Calls.{rankOf}
-use Rattle.dictionary.specs.Calls.{dictionaryNumberOf}
+use Rattle.dictionary_laws.specs.Calls.{dictionaryNumberOf}
 use Rattle.translating.specs.Names.{Named, names, namesText, mostNames}
 use Rattle.translating.proofs.Longest.{names-109}
 use Rattle.translating_names.specs.Pieces.{namesOf, namesLength, namesLine}

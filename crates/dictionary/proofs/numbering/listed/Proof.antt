@@ -7,7 +7,7 @@ use borrow.Author.Needs.{needs}
 use Rattle.listing.specs.Limits.{mostPorts}
 use Rattle.pattern_check.proofs.Calls.{out-of-size, size-within}
 use Rattle.patterns.proofs.Calls.{listed, unlisted}
-use Rattle.dictionary.specs.Calls.{listedOf}
+use Rattle.dictionary_laws.specs.Calls.{listedOf}
 use Rattle.dictionary.proofs.numbering.listed.Statement.{statement}
 use Rattle.dictionary.proofs.numbering.listed.Tie as tie
 

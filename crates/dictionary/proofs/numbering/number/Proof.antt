@@ -8,7 +8,7 @@ use Rattle.words.specs.Meaning.{outcomeTold}
 use Rattle.words.specs.Told.{accepted}
 use Rattle.pattern_check.specs.Calls.{checkOf}
 use Rattle.pattern_check.proofs.Accepted.{accepted-pattern}
-use Rattle.dictionary.proofs.Told.{number-refused, number-accepted}
+use Rattle.dictionary_laws.proofs.Told.{number-refused, number-accepted}
 use Rattle.dictionary.proofs.numbering.number.Statement.{statement}
 use Rattle.dictionary.proofs.numbering.number.Tie as tie
 

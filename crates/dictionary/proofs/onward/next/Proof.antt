@@ -14,7 +14,7 @@ use Rattle.words.specs.Meaning.{outcomeTold}
 use Rattle.words.specs.Told.{accepted}
 use Rattle.pattern_check.specs.Calls.{checkOf}
 use Rattle.pattern_check.proofs.Accepted.{accepted-pattern}
-use Rattle.dictionary.proofs.Told.{number-fits, next-refused, next-accepted}
+use Rattle.dictionary_laws.proofs.Told.{number-fits, next-refused, next-accepted}
 use Rattle.dictionary.proofs.onward.next.Statement.{statement}
 use Rattle.dictionary.proofs.onward.next.Tie as tie
 

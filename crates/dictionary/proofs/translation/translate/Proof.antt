@@ -6,8 +6,8 @@ use borrow.Author.Needs.{needs}
 use Rattle.listing.specs.Limits.{mostPorts}
 use Rattle.words.specs.Meaning.{outcomeTold}
 use Rattle.words.specs.Told.{accepted}
-use Rattle.dictionary.specs.Calls.{listedOf, translatedOf}
-use Rattle.dictionary.proofs.Told.{listed-parts, room-for, translated-refused}
+use Rattle.dictionary_laws.specs.Calls.{listedOf, translatedOf}
+use Rattle.dictionary_laws.proofs.Told.{listed-parts, room-for, translated-refused}
 use Rattle.dictionary.proofs.translation.translate.Statement.{statement}
 use Rattle.dictionary.proofs.translation.translate.Tie as tie
 

@@ -8,7 +8,7 @@ use borrow.Author.Needs.{needs}
 use Rattle.listing.specs.Limits.{mostPorts}
 use Rattle.words.specs.Told.{accepted}
 use Rattle.pattern_check.proofs.Accepted.{Pattern}
-use Rattle.dictionary.proofs.Told.{listed-parts, rank-pattern, back-told, rank-told}
+use Rattle.dictionary_laws.proofs.Told.{listed-parts, rank-pattern, back-told, rank-told}
 use Rattle.dictionary.proofs.translation.translate_in.Statement.{statement}
 use Rattle.dictionary.proofs.translation.translate_in.Tie as tie
 

@@ -26,8 +26,8 @@ use Rattle.pattern_check.proofs.Calls.{size-within}
 use Rattle.pattern_check.proofs.Accepted.{Pattern, accepted-pattern, pattern-accepted}
 use Rattle.patterns.specs.Calls.{ranked, rankOf}
 use Rattle.patterns.proofs.Accepted.{rank-accepted}
-use Rattle.dictionary.specs.Calls.{dictionaryNumberOf, listedOf, dictionaryPatternOf, dictionaryPatternBytes, dictionaryNextOf, dictionaryNextBytes}
-use Rattle.dictionary.specs.Calls.{numberToRankOf, rankToNumberOf, translatedOf}
+use Rattle.dictionary_laws.specs.Calls.{dictionaryNumberOf, listedOf, dictionaryPatternOf, dictionaryPatternBytes, dictionaryNextOf, dictionaryNextBytes}
+use Rattle.dictionary_laws.specs.Calls.{numberToRankOf, rankToNumberOf, translatedOf}
 
 -- ---- a pattern
 
