@@ -2,14 +2,32 @@
 # it cites as `crate/must-fail/name.edit` and every file that it names by its path is there; a page cites at least as many as its last line says, so that
 # citations cannot be lost unseen; and no line of prose is longer than 120 characters.
 
+# documents_unmade: of the laws and definitions on standard input, one to a line, those that their file does not make public
+documents_unmade() {
+    awk '
+        function read_names(file,    line) {
+            while ((getline line < file) > 0)
+                if (sub(/^ *((unfoldable|abbrev) )?pub (record |data )?/, "", line) && sub(/ .*/, "", line)) made[place, line]
+            close(file)
+        }
+        {
+            crate = file = name = $0
+            sub(/[.].*/, "", crate)
+            sub(/^[^.]*[.]/, "", file); sub(/[.].*/, "", file)
+            sub(/^[^.]*[.][^.]*[.]/, "", name)
+            place = crate "." file
+            if (!(place in seen)) {
+                seen[place]
+                read_names("crates/" crate "/specs/" file ".antt")
+                read_names("crates/" crate "/proofs/" file ".antt")
+            }
+            if (!((place, name) in made)) print
+        }'
+}
+
 # documents_missing PAGE: what the page cites and the tree does not have
 documents_missing() {
-    for cite in $(grep -oE '`[a-z_]+\.[A-Za-z]+\.[^ `]+`' "$1" | tr -d '`' | sort -u); do
-        rest=${cite#*.}
-        name=$(printf '%s' "${rest#*.}" | sed 's/[?*+.]/\\&/g')
-        grep -qsE "^ *((unfoldable|abbrev) )?pub (record |data )?$name " \
-            "crates/${cite%%.*}/specs/${rest%%.*}.antt" "crates/${cite%%.*}/proofs/${rest%%.*}.antt" || echo "$cite"
-    done
+    grep -oE '`[a-z_]+\.[A-Za-z]+\.[^ `]+`' "$1" | tr -d '`' | sort -u | documents_unmade
     for edit in $(grep -oE '`[a-z_]+/must-fail/[^ `]+\.edit`' "$1" | tr -d '`' | sort -u); do
         [ -f "crates/$edit" ] || echo "$edit"
     done
@@ -47,12 +65,15 @@ fi
 # The table of claims, docs/WORKING.md: each row quotes a sentence of README or of a page, and the sentence stands there. Rows are `| page | sentence | held by |`
 # after the heading 'What the pages claim'.
 documents_claims=$(sed -n '/^## What the pages claim/,/^## /p' docs/WORKING.md | grep -E '^\| (README|USING) \|')
+documents_joined() { tr '\n' ' ' <"$1" | tr -s ' '; }
+documents_README=$(documents_joined README.md)
+documents_USING=$(documents_joined docs/USING.md)
 documents_unsaid=$(echo "$documents_claims" | while IFS='|' read -r _ page sentence held _; do
-    page=$(echo $page)
-    [ "$page" = README ] && text=README.md || text=docs/$page.md
-    sentence=$(printf '%s' "$sentence" | sed 's/^ *//; s/ *$//')
-    tr '\n' ' ' <"$text" | sed 's/  */ /g' | grep -qF -- "$sentence" || echo "$page: $sentence"
-    [ -n "$(echo $held)" ] || echo "$page: nothing holds: $sentence"
+    case $page in *README*) text=$documents_README ;; *) text=$documents_USING ;; esac
+    sentence=${sentence# }
+    sentence=${sentence% }
+    case $text in *"$sentence"*) ;; *) echo "$(echo $page): $sentence" ;; esac
+    [ -n "${held# }" ] || echo "$(echo $page): nothing holds: $sentence"
 done)
 documents_rows=$(echo "$documents_claims" | grep -c .)
 if [ -n "$documents_unsaid" ]; then
