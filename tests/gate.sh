@@ -106,6 +106,7 @@ on_path no-kit rt 'the command rt is missing'
 printf '#!/bin/sh\necho "rattle-kit-5 logic 0000000000000000"\n' >"$gate_copies/stand-in"
 chmod +x "$gate_copies/stand-in"
 on_path other-kit rt "the kit is 'rattle-kit-5 logic 0000000000000000'"
+changed sum-without-its-grounds docs/DECISIONS.md '/^| `097e4c862dff5811`/d' 'docs/DECISIONS.md has other logic sums than those that are taken'
 on_path no-rustc rustc 'the command rustc is missing: install the Debian package rustc'
 on_path no-cc cc 'the command cc is missing: install the Debian package gcc'
 on_path no-c++ c++ 'the command c++ is missing: install the Debian package g++'

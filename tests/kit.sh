@@ -1,5 +1,5 @@
 # The kit: `rt` is there, and it is one that these proofs are for. Two kits with one logic sum accept the same proofs, so what follows the kit's number in its
-# name is taken as it comes and the sum is not. docs/DECISIONS.md says what each of these sums was tried on before it was taken.
+# name is taken as it comes and the sum is not. docs/DECISIONS.md has the same sums, and on what grounds each is taken.
 kit_name=rattle-kit-5
 kit_sums='064da1ca440f63e7 097e4c862dff5811'
 if ! command -v rt >/dev/null 2>&1; then
@@ -16,4 +16,10 @@ if [ "$kit_known" = yes ]; then
 else
     fail "the kit is '$kit', and these proofs are for $kit_name with logic $(echo $kit_sums | sed 's/ / or /g')"
     finish
+fi
+
+if [ "$(sed -n 's/^| `\([0-9a-f]*\)` | `rattle-kit-.*/\1/p' docs/DECISIONS.md | tr '\n' ' ')" = "$kit_sums " ]; then
+    pass 'docs/DECISIONS.md has the logic sums that are taken'
+else
+    fail 'docs/DECISIONS.md has other logic sums than those that are taken'
 fi
