@@ -4,14 +4,27 @@ type edits_there >/dev/null 2>&1 || . "$root/tests/edits.sh"
 gate_copies=$(mktemp -d)
 trap 'rm -rf "$gate_copies"' EXIT
 
-# copy LABEL: a copy of the tree, without what was built; its folder is $gate_copy
+# the tree without what was built, copied once
+gate_whole=$gate_copies/whole
+mkdir "$gate_whole"
+for entry in .ci *; do
+    [ "$entry" = target ] || cp -R "$entry" "$gate_whole/"
+done
+
+# copy LABEL: a copy of that; its folder is $gate_copy. Its files are links to those of the first copy, so one that is changed is put in place anew, by written
 copy() {
     gate_copy=$gate_copies/$1
-    mkdir "$gate_copy"
-    for entry in .ci *; do
-        [ "$entry" = target ] || cp -R "$entry" "$gate_copy/"
-    done
+    cp -Rl "$gate_whole" "$gate_copy"
 }
+
+# written FILE: the file of the copy becomes what comes on standard input
+written() {
+    cat >"$gate_copies/new"
+    mv "$gate_copies/new" "$gate_copy/$1"
+}
+
+# appended FILE LINE: the file of the copy with one line more
+appended() { { cat "$1" && echo "$2"; } | written "$1"; }
 
 # must_fail LABEL WORDS: the copy fails, its last line counts a failure, and it says WORDS
 must_fail() {
@@ -31,7 +44,7 @@ must_fail() {
 # changed LABEL FILE SCRIPT WORDS: a copy in which sed's SCRIPT changed the FILE
 changed() {
     copy "$1"
-    sed "$3" "$2" >"$gate_copy/$2"
+    sed "$3" "$2" | written "$2"
     if cmp -s "$2" "$gate_copy/$2"; then
         fail "gate: $1: the copy is not changed"
     else
@@ -63,13 +76,13 @@ echo '// not listed' >"$gate_copy/crates/stray/src/lib.rt"
 must_fail stray-crate 'a crate folder that crates.txt does not list: stray'
 
 copy crate-without-folder
-echo 'absent:' >>"$gate_copy/crates.txt"
+appended crates.txt 'absent:'
 must_fail crate-without-folder 'a crate of crates.txt without a folder: absent'
 
 copy crate-without-a-room
 mkdir -p "$gate_copy/crates/legs/src"
-echo 'legs:' >>"$gate_copy/crates.txt"
-echo 'The crate `legs`.' >>"$gate_copy/README.md"
+appended crates.txt 'legs:'
+appended README.md 'The crate `legs`.'
 must_fail crate-without-a-room 'a crate that begins with no room: legs'
 
 changed crate-left-out-of-the-tour README.md 's/`listing_cases`/the cases/' "a crate that README's tour does not name: listing_cases"
