@@ -5,23 +5,20 @@
 # documents_unmade: of the laws and definitions on standard input, one to a line, those that their file does not make public
 documents_unmade() {
     awk '
-        function read_names(file,    line) {
-            while ((getline line < file) > 0)
-                if (sub(/^ *((unfoldable|abbrev) )?pub (record |data )?/, "", line) && sub(/ .*/, "", line)) made[place, line]
-            close(file)
+        # the names that a file of a crate makes public, each as it is cited
+        function read_names(crate, folder, file,    path, line) {
+            path = "crates/" crate "/" folder "/" file ".antt"
+            while ((getline line < path) > 0)
+                if (sub(/^ *((unfoldable|abbrev) )?pub (record |data )?/, "", line) && sub(/ .*/, "", line)) made[crate "." file "." line]
+            close(path)
         }
         {
-            crate = file = name = $0
-            sub(/[.].*/, "", crate)
-            sub(/^[^.]*[.]/, "", file); sub(/[.].*/, "", file)
-            sub(/^[^.]*[.][^.]*[.]/, "", name)
-            place = crate "." file
-            if (!(place in seen)) {
-                seen[place]
-                read_names("crates/" crate "/specs/" file ".antt")
-                read_names("crates/" crate "/proofs/" file ".antt")
+            split($0, part, ".")
+            if (!seen[part[1], part[2]]++) {
+                read_names(part[1], "specs", part[2])
+                read_names(part[1], "proofs", part[2])
             }
-            if (!((place, name) in made)) print
+            if (!($0 in made)) print
         }'
 }
 
@@ -65,15 +62,15 @@ fi
 # The table of claims, docs/WORKING.md: each row quotes a sentence of README or of a page, and the sentence stands there. Rows are `| page | sentence | held by |`
 # after the heading 'What the pages claim'.
 documents_claims=$(sed -n '/^## What the pages claim/,/^## /p' docs/WORKING.md | grep -E '^\| (README|USING) \|')
-documents_joined() { tr '\n' ' ' <"$1" | tr -s ' '; }
-documents_README=$(documents_joined README.md)
-documents_USING=$(documents_joined docs/USING.md)
-documents_unsaid=$(echo "$documents_claims" | while IFS='|' read -r _ page sentence held _; do
-    case $page in *README*) text=$documents_README ;; *) text=$documents_USING ;; esac
-    sentence=${sentence# }
-    sentence=${sentence% }
-    case $text in *"$sentence"*) ;; *) echo "$(echo $page): $sentence" ;; esac
-    [ -n "${held# }" ] || echo "$(echo $page): nothing holds: $sentence"
+documents_unsaid=$(for page in README USING; do
+    [ "$page" = README ] && text=README.md || text=docs/$page.md
+    text=$(tr '\n' ' ' <"$text" | tr -s ' ')
+    echo "$documents_claims" | grep "^| $page |" | while IFS='|' read -r _ _ sentence held _; do
+        sentence=${sentence# }
+        sentence=${sentence% }
+        case $text in *"$sentence"*) ;; *) echo "$page: $sentence" ;; esac
+        case $held in *[!\ ]*) ;; *) echo "$page: nothing holds: $sentence" ;; esac
+    done
 done)
 documents_rows=$(echo "$documents_claims" | grep -c .)
 if [ -n "$documents_unsaid" ]; then

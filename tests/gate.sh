@@ -17,10 +17,10 @@ copy() {
     cp -Rl "$gate_whole" "$gate_copy"
 }
 
-# written FILE: the file of the copy becomes what comes on standard input
+# written FILE: the file of the copy, and of no other, becomes what comes on standard input
 written() {
-    cat >"$gate_copies/new"
-    mv "$gate_copies/new" "$gate_copy/$1"
+    rm "$gate_copy/$1"
+    cat >"$gate_copy/$1"
 }
 
 # appended FILE LINE: the file of the copy with one line more
@@ -123,6 +123,14 @@ changed sum-without-its-grounds docs/DECISIONS.md '/^| `097e4c862dff5811`/d' 'do
 on_path no-rustc rustc 'the command rustc is missing: install the Debian package rustc'
 on_path no-cc cc 'the command cc is missing: install the Debian package gcc'
 on_path no-c++ c++ 'the command c++ is missing: install the Debian package g++'
+
+# ---- the first copy, to which all others are links, is still the tree, and a copy with nothing wrong is not refused
+if out=$(cd / && "$gate_whole/test" $before 2>&1); then
+    pass 'gate: the tree with nothing wrong passes'
+else
+    echo "$out" | tail -n 3
+    fail 'gate: a copy of the tree with nothing wrong is refused'
+fi
 
 # ---- the parts
 if out=$(./test gates 2>&1); then fail 'gate: a part that there is not is run'; else

@@ -21,8 +21,9 @@ use Rattle.words.specs.Told.{accepted}
 use Rattle.pattern_check.specs.Calls.{checkOf}
 use Rattle.pattern_check.proofs.Calls.{fits}
 use Rattle.pattern_check.proofs.Accepted.{pattern-accepted}
+use Rattle.patterns.specs.Calls.{listedOf}
 use Rattle.patterns.proofs.Calls.{is-rank}
-use Rattle.dictionary_laws.specs.Calls.{dictionaryNumberOf, listedOf, dictionaryNextBytes, numberToRankOf, rankToNumberOf}
+use Rattle.dictionary_laws.specs.Calls.{dictionaryNumberOf, dictionaryNextBytes, numberToRankOf, rankToNumberOf}
 use Rattle.dictionary_laws.proofs.Told.{number-accepted, next-accepted, pattern-told}
 use Rattle.demands.specs.Dictionary.{Translated, DictionaryNumbers}
 

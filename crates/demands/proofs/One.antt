@@ -19,8 +19,8 @@ use Rattle.words.specs.declared.Line.{Line}
 use Rattle.pattern_check.specs.Faults.{Fault, sound, outside, repeated, ownJack, faultOf, faultTold}
 use Rattle.pattern_check.specs.Calls.{checkAs, checkOf}
 use Rattle.pattern_check.proofs.Jacks.{check-second}
-use Rattle.patterns.specs.Calls.{ranked, countOf, rankOf, unrankOf, unrankBytes, besideOf, besideBytes, stepOf}
-use Rattle.dictionary_laws.specs.Calls.{listedOf, dictionaryNumberOf, dictionaryPatternOf, dictionaryPatternBytes, dictionaryNextOf, dictionaryNextBytes}
+use Rattle.patterns.specs.Calls.{ranked, countOf, rankOf, listedOf, unrankOf, unrankBytes, besideOf, besideBytes, stepOf}
+use Rattle.dictionary_laws.specs.Calls.{dictionaryNumberOf, dictionaryPatternOf, dictionaryPatternBytes, dictionaryNextOf, dictionaryNextBytes}
 use Rattle.dictionary_laws.specs.Calls.{numberToRankOf, rankToNumberOf}
 use Rattle.panel.specs.Calls.{onPanel, portOf, jackOf, carryOf, carryBytes}
 use Rattle.panel.proofs.Accepted.{panel-refused}
@@ -296,13 +296,13 @@ resume-kept s p k q e = ap (λ x. goesOn x (panelIn p s) s) e
 -- ---- demand one
 
 pub demand-one : DemandOne
-unfolding countOf rankOf unrankOf unrankBytes besideOf besideBytes stepOf dictionaryNumberOf dictionaryPatternBytes dictionaryNextBytes numberToRankOf rankToNumberOf portOf jackOf carryOf carryBytes writeBytes
+unfolding countOf rankOf unrankBytes besideOf besideBytes stepOf dictionaryNumberOf dictionaryPatternBytes dictionaryNextBytes numberToRankOf rankToNumberOf portOf jackOf carryOf carryBytes writeBytes
 demand-one = record {
   check = check-numbers;
   checkPanel = check-panel-numbers;
   count = λ n. from-sized (1 ∷ []) mostPorts n _ (inl refl) (each-accepted (Listed (1 ∷ [])) _);
   rank = λ p. each-then (Listed ofPattern) _ _ (check-numbers p) (λ ok. each-accepted (Listed ofPattern) _);
-  unrank = λ r out. from-sized (1 ∷ 6 ∷ []) mostPorts (length out) _ (inl refl) (ranked-numbers (length out) r tt);
+  unrank = λ r out. listed-numbers (length out) r;
   unrankKeeps = λ r out. kept (unrankOf mostPorts r out) _ out;
   beside = λ back p. each-then (Listed ofPattern) _ _ (check-numbers p) (λ ok. each-accepted (Listed ofPattern) _);
   besideKeeps = λ back p. kept (besideOf mostPorts back p) _ p;

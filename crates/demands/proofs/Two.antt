@@ -21,7 +21,7 @@ use Rattle.words.specs.Told.{accepted, leaves}
 use Rattle.pattern_check.specs.Calls.{sized, checkOf}
 use Rattle.pattern_check.proofs.Calls.{fits}
 use Rattle.pattern_check.proofs.Accepted.{pattern-accepted}
-use Rattle.patterns.specs.Calls.{ranked, countOf, rankOf, unrankOf, unrankBytes, besideOf, besideBytes, stepOf}
+use Rattle.patterns.specs.Calls.{ranked, countOf, rankOf, listedOf, unrankOf, unrankBytes, besideOf, besideBytes, stepOf}
 use Rattle.patterns.proofs.Calls.{is-rank}
 use Rattle.patterns.proofs.Accepted.{rank-accepted}
 use Rattle.demands.specs.Two.{TheMove, DemandTwo}
@@ -66,7 +66,7 @@ module _ (n : ℕ) (few : 2 ≤ n) (many : n ≤ mostPorts) where
 
   -- the pattern of a rank is written into every slice of n bytes
   unranked : (r : ℕ) (out : List ℕ) → r < count n → length out ≡ n → (unrankOf mostPorts r out ≡ accepted tt) × (unrankBytes mostPorts r out ≡ at n r)
-  unfolding unrankOf unrankBytes
+  unfolding listedOf unrankBytes
   unranked r out h l =
       let told : unrankOf mostPorts r out ≡ accepted tt =
       ap (λ k. sized mostPorts k (ranked k r (accepted tt))) l ∙ sized-ranked r tt h in

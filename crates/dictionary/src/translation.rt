@@ -1,8 +1,8 @@
 // From a dictionary number to our rank and back: each by the pattern that both name.
-use crate::numbering::listed;
 use dictionary_walk::walk::number_of;
 use dictionary_walk::walk::put_numbered;
 use pattern_course::unranking::put_pattern;
+use patterns::ranking::listed;
 use patterns::ranking::rank;
 use words::Numbered;
 use words::Outcome;
@@ -13,7 +13,8 @@ ghost use lib.ListN.{length};
 ghost use Rattle.words.specs.Meaning.{numberedTold};
 ghost use Rattle.words.specs.Told.{accepted};
 ghost use Rattle.listing.specs.Limits.{mostPorts};
-ghost use Rattle.dictionary_laws.specs.Calls.{listedOf, numberToRankOf, rankToNumberOf, translatedOf};
+ghost use Rattle.patterns.specs.Calls.{listedOf};
+ghost use Rattle.dictionary_laws.specs.Calls.{numberToRankOf, rankToNumberOf, translatedOf};
 
 // The number of the pattern of a rank, or the rank of the pattern of a number, in room for the pattern.
 fn translate_in(ranked: bool, k: u64, room: &mut [u8]) -> Numbered

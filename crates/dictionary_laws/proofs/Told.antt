@@ -1,32 +1,28 @@
 -- What the calls tell and leave, by their definitions: a refusal is passed on whole, and leaves the slice; what is accepted is what it says.
 -- Assumes nothing.
-use mathlib.Core.Path.{_≡_, refl, sym, ap, _∙_}
+use mathlib.Core.Path.{_≡_, sym, ap, _∙_}
 use mathlib.Core.Bool.{Bool, true, false}
 use mathlib.Core.List.{List}
-use Prim.Native.Nat.{ℕ, _≤_, _<_}
-use lib.Dec.{ltb}
+use Prim.Native.Nat.{ℕ, _<_}
 use lib.ListN.{length, take, replicate}
 use lib.Seq.{length-take-le}
-use borrow.Author.Tests.{ltb-true}
 use Rattle.listing.specs.Pattern.{Derangement}
 use Rattle.listing.specs.Count.{count}
 use Rattle.listing.specs.Listing.{at}
 use Rattle.listing.specs.Rank.{rank}
 use Rattle.listing.specs.Neighbours.{nextRank}
 use Rattle.listing.specs.Limits.{mostPorts}
-use Rattle.listing.proofs.Numbers.{either, test}
 use Rattle.listing.proofs.Ranks.{at-derangement}
 use Rattle.listing_dictionary.specs.Dictionary.{inDictionary}
 use Rattle.listing_dictionary.specs.Number.{number}
 use Rattle.listing_dictionary.proofs.Dictionary.{dictionary-derangement, number-count}
 use Rattle.words.specs.Told.{Spot, accepted, refused}
-use Rattle.words.proofs.Told.{not-both}
-use Rattle.pattern_check.specs.Calls.{inSize, sized, checkOf}
-use Rattle.pattern_check.proofs.Calls.{size-within}
+use Rattle.pattern_check.specs.Calls.{checkOf}
 use Rattle.pattern_check.proofs.Accepted.{Pattern, accepted-pattern, pattern-accepted}
-use Rattle.patterns.specs.Calls.{ranked, rankOf}
+use Rattle.patterns.specs.Calls.{rankOf, listedOf}
+use Rattle.patterns.proofs.Calls.{listed-parts}
 use Rattle.patterns.proofs.Accepted.{rank-accepted}
-use Rattle.dictionary_laws.specs.Calls.{dictionaryNumberOf, listedOf, dictionaryPatternOf, dictionaryPatternBytes, dictionaryNextOf, dictionaryNextBytes}
+use Rattle.dictionary_laws.specs.Calls.{dictionaryNumberOf, dictionaryPatternOf, dictionaryPatternBytes, dictionaryNextOf, dictionaryNextBytes}
 use Rattle.dictionary_laws.specs.Calls.{numberToRankOf, rankToNumberOf, translatedOf}
 
 -- ---- a pattern
@@ -64,40 +60,28 @@ module _ (most n k : ℕ) where
   translated-refused true j s e = rw (← e)
   translated-refused false j s e = rw (← e)
 
-  -- what is accepted has 2 to most ports, and is below the count
-  pub listed-parts : accepted tt ≡ listedOf most n k → (2 ≤ n) × (n ≤ most) × (k < count n)
-  unfolding listedOf sized ranked
-  listed-parts e =
-      either (test (inSize most n))
-      (λ size.
-      let ports = size-within most n (sym size) refl in
-      either (test (ltb k (count n)))
-      (λ low. (ports .0, ports .1, ltb-true k (count n) low))
-      (λ high. absurd (not-both (sym (rw (size, high) at e)))))
-      (λ wrong. absurd (not-both (sym (rw wrong at e))))
-
   -- what is found by a rank, and by a number, is a pattern of so many ports
   module _ (e : accepted tt ≡ listedOf most n k) where
     of-ports : (p : List ℕ) → Derangement n p → Pattern most p
     of-ports p D =
-        let h = listed-parts e in
+        let h = listed-parts most n k e in
         let long : length p ≡ n = D .permutation .long in
         record { low = rw long (h .0); high = rw long (h .1); is = rw long D }
 
     pub rank-pattern : Pattern most (at n k)
-    rank-pattern = of-ports (at n k) (at-derangement n k (listed-parts e .2))
+    rank-pattern = of-ports (at n k) (at-derangement n k (listed-parts most n k e .2))
 
     -- so the one has a number
     pub back-told : (p : List ℕ) → p ≡ at n k → accepted (number (length p) p) ≡ rankToNumberOf most n k
     unfolding rankToNumberOf
     back-told p f =
-        rw (f, ← e) (ap (λ (m : ℕ). accepted (number m (at n k))) (at-derangement n k (listed-parts e .2) .permutation .long))
+        rw (f, ← e) (ap (λ (m : ℕ). accepted (number m (at n k))) (at-derangement n k (listed-parts most n k e .2) .permutation .long))
 
     -- and the other a rank
     pub rank-told : (p : List ℕ) → p ≡ inDictionary n k → rankOf most p ≡ numberToRankOf most n k
     unfolding numberToRankOf
     rank-told p f =
-        let D = dictionary-derangement n k (listed-parts e .2) in
+        let D = dictionary-derangement n k (listed-parts most n k e .2) in
         let q = inDictionary n k in
         rw (f, ← e)
         (sym (rank-accepted most q (pattern-accepted most q (of-ports q D))) ∙ ap (λ (m : ℕ). accepted (rank m q)) (D .permutation .long))

@@ -11,18 +11,14 @@ use Rattle.listing.specs.Neighbours.{nextRank}
 use Rattle.listing_dictionary.specs.Dictionary.{inDictionary}
 use Rattle.listing_dictionary.specs.Number.{number}
 use Rattle.words.specs.Told.{Told, accepted, then, leaves}
-use Rattle.pattern_check.specs.Calls.{sized, checkOf}
-use Rattle.patterns.specs.Calls.{ranked}
+use Rattle.pattern_check.specs.Calls.{checkOf}
+use Rattle.patterns.specs.Calls.{listedOf}
 
 -- 'pattern to dictionary number (from 0)': the refusals of the check
 unfoldable pub dictionaryNumberOf : ℕ → List ℕ → Told ℕ
 dictionaryNumberOf most p = then (checkOf most p) (λ ok. accepted (number (length p) p))
 
--- whether k is a number, and so a rank, of a pattern of n ports: 1, then 6
-unfoldable pub listedOf : ℕ → ℕ → ℕ → Told (Unit {0})
-listedOf most n k = sized most n (ranked n k (accepted tt))
-
--- 'number to pattern', for as many ports as the slice has bytes
+-- 'number to pattern', for as many ports as the slice has bytes: refused as a rank is
 abbrev pub dictionaryPatternOf : ℕ → ℕ → List ℕ → Told (Unit {0})
 dictionaryPatternOf most k out = listedOf most (length out) k
 

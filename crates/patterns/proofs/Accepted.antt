@@ -19,7 +19,7 @@ use Rattle.listing.proofs.Ranks.{rank-below, at-rank}
 use Rattle.listing.proofs.Neighbours.{beside-leads}
 use Rattle.words.specs.Told.{Spot, nowhere, Told, accepted, refused, then}
 use Rattle.pattern_check.specs.Calls.{checkOf}
-use Rattle.patterns.specs.Calls.{rankOf, unrankOf, unrankBytes, besideOf, besideBytes}
+use Rattle.patterns.specs.Calls.{rankOf, listedOf, unrankOf, unrankBytes, besideOf, besideBytes}
 use Rattle.pattern_check.proofs.Accepted.{Pattern, accepted-pattern}
 
 -- ---- the rank
@@ -35,16 +35,16 @@ rank-accepted most p e = rw (← e)
 -- ---- the pattern of a rank
 
 -- what a refused call tells and leaves
-pub unrank-refused : (most r : ℕ) (out : List ℕ) (k : ℕ) (s : Spot) → unrankOf most r out ≡ refused k s
+pub unrank-refused : (most r : ℕ) (out : List ℕ) (k : ℕ) (s : Spot) → refused k s ≡ listedOf most (length out) r
     → (refused k s ≡ unrankOf most r out) × (out ≡ unrankBytes most r out)
 unfolding unrankBytes
-unrank-refused most r out k s e = (sym e, rw e)
+unrank-refused most r out k s e = (e, rw (← e))
 
 -- and an accepted one
-pub unrank-accepted : (most r : ℕ) (out : List ℕ) → unrankOf most r out ≡ accepted tt
+pub unrank-accepted : (most r : ℕ) (out : List ℕ) → accepted tt ≡ listedOf most (length out) r
     → (accepted tt ≡ unrankOf most r out) × (at (length out) r ≡ unrankBytes most r out)
 unfolding unrankBytes
-unrank-accepted most r out e = (sym e, rw e)
+unrank-accepted most r out e = (e, rw (← e))
 
 -- ---- the pattern beside a pattern
 

@@ -28,9 +28,13 @@ countOf most n = sized most n (accepted (count n))
 unfoldable pub rankOf : ℕ → List ℕ → Told ℕ
 rankOf most p = then (checkOf most p) (λ ok. accepted (rank (length p) p))
 
--- the pattern of a rank, for as many ports as the slice has bytes: 1, then 6
-unfoldable pub unrankOf : ℕ → ℕ → List ℕ → Told (Unit {0})
-unrankOf most r out = sized most (length out) (ranked (length out) r (accepted tt))
+-- whether r is the rank of a pattern of n ports, and so its number in any order that begins at 0: 1, then 6
+unfoldable pub listedOf : ℕ → ℕ → ℕ → Told (Unit {0})
+listedOf most n r = sized most n (ranked n r (accepted tt))
+
+-- the pattern of a rank, for as many ports as the slice has bytes
+abbrev pub unrankOf : ℕ → ℕ → List ℕ → Told (Unit {0})
+unrankOf most r out = listedOf most (length out) r
 
 -- the pattern beside a pattern, next or previous: the refusals of the check; else the move that was made
 unfoldable pub besideOf : ℕ → Bool → List ℕ → Told Move

@@ -26,8 +26,8 @@ use Rattle.text_entries.specs.declared.Entries.{Entries}
 use Rattle.line_format.specs.Calls.{over}
 use Rattle.pattern_check.specs.Calls.{sized}
 use Rattle.pattern_check.proofs.Calls.{fits}
-use Rattle.patterns.specs.Calls.{ranked, unrankOf, unrankBytes}
-use Rattle.dictionary_laws.specs.Calls.{listedOf, dictionaryPatternOf, dictionaryPatternBytes}
+use Rattle.patterns.specs.Calls.{ranked, listedOf, unrankOf, unrankBytes}
+use Rattle.dictionary_laws.specs.Calls.{dictionaryPatternOf, dictionaryPatternBytes}
 use Rattle.translating_find.specs.Pieces.{inOrder, counted, inEntries, foundTold, foundBytes}
 
 -- what was told of a pattern and the bytes left
@@ -74,7 +74,7 @@ module _ (t old : List ℕ) (low : 2 ≤ length old) (high : length old ≤ most
     (answer : Told (Unit {0})) (left : List ℕ) where
   -- by a rank in the list
   pub by-unrank : answer ≡ unrankOf mostPorts r old → left ≡ unrankBytes mostPorts r old → Finds (inOrder (at (length old)) (length old) t) old answer left
-  unfolding unrankOf unrankBytes
+  unfolding unrankBytes listedOf
   by-unrank f g = sized-order (at (length old)) (length old) t old low high r e answer left f g
 
   -- by a number in the dictionary

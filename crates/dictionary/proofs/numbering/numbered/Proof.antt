@@ -7,8 +7,9 @@ use borrow.Author.Needs.{needs}
 use Rattle.listing.specs.Limits.{mostPorts}
 use Rattle.words.specs.Meaning.{outcomeTold}
 use Rattle.words.specs.Told.{accepted}
-use Rattle.dictionary_laws.specs.Calls.{listedOf}
-use Rattle.dictionary_laws.proofs.Told.{listed-parts, pattern-refused, pattern-told}
+use Rattle.patterns.specs.Calls.{listedOf}
+use Rattle.patterns.proofs.Calls.{listed-parts}
+use Rattle.dictionary_laws.proofs.Told.{pattern-refused, pattern-told}
 use Rattle.dictionary.proofs.numbering.numbered.Statement.{statement}
 use Rattle.dictionary.proofs.numbering.numbered.Tie as tie
 

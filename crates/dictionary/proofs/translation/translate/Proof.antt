@@ -6,8 +6,10 @@ use borrow.Author.Needs.{needs}
 use Rattle.listing.specs.Limits.{mostPorts}
 use Rattle.words.specs.Meaning.{outcomeTold}
 use Rattle.words.specs.Told.{accepted}
-use Rattle.dictionary_laws.specs.Calls.{listedOf, translatedOf}
-use Rattle.dictionary_laws.proofs.Told.{listed-parts, room-for, translated-refused}
+use Rattle.patterns.specs.Calls.{listedOf}
+use Rattle.patterns.proofs.Calls.{listed-parts}
+use Rattle.dictionary_laws.specs.Calls.{translatedOf}
+use Rattle.dictionary_laws.proofs.Told.{room-for, translated-refused}
 use Rattle.dictionary.proofs.translation.translate.Statement.{statement}
 use Rattle.dictionary.proofs.translation.translate.Tie as tie
 

@@ -1,55 +1,33 @@
 -- `patterns::ranking::unrank` writes the pattern of the list at the rank, and on a refusal (1, then 6) leaves the slice as it was.
-use mathlib.Core.Path.{sym, _∙_}
-use Prim.Native.Nat.{_≤_}
-use native.Mathlib.Omega.{arith}
+-- Assumes nothing.
+use mathlib.Core.Path.{_≡_, sym, ap, _∙_}
 use lib.ListN.{length}
 use borrow.Author.Needs.{needs}
 use Rattle.listing.specs.Limits.{mostPorts}
+use Rattle.words.specs.Meaning.{outcomeTold}
+use Rattle.words.specs.Told.{accepted}
+use Rattle.patterns.specs.Calls.{listedOf}
+use Rattle.patterns.proofs.Calls.{listed-parts}
 use Rattle.patterns.proofs.Accepted.{unrank-refused, unrank-accepted}
-use Rattle.pattern_check.proofs.Calls.{out-of-size, size-within}
-use Rattle.patterns.proofs.Calls.{listed, unlisted}
-use Rattle.patterns.specs.Calls.{unrankOf}
 use Rattle.patterns.proofs.ranking.unrank.Statement.{statement}
 use Rattle.patterns.proofs.ranking.unrank.Tie as tie
 
-returns : tie.Need-returns
-unfolding unrankOf
-returns c = rw (c .nowhere .ensures) (unrank-refused _ _ _ _ _ (sym (out-of-size _ _ _ (c .before .before .in-size .ensures) (c .before .if1 .taken))))
-
--- the slice has 2 to 20 bytes
-size : (c : tie.Else1) → (2 ≤ length (c .before .before .before .args .out .now)) × (length (c .before .before .before .args .out .now) ≤ mostPorts)
-size c = size-within _ _ (c .before .in-size .ensures) (c .if1 .left)
-
-returns-2 : tie.Need-returns-2
-unfolding unrankOf
-returns-2 c =
-    let n = c .before .before in
-    rw (c .nowhere2 .ensures)
-    (unrank-refused _ _ _ _ _ (unlisted _ _ _ _ (n .before .before .in-size .ensures) (n .before .if1 .left) (n .count-of .ensures) (c .before .if2 .taken)))
+-- the rank that the match found listed is one
+sound : (c : tie.After-enum-told) → let s = c .before .before .before .before in accepted tt ≡ listedOf mostPorts (length (s .args .out .now)) (s .args .rank)
+sound c = ap outcomeTold (sym (c .enum-told .given .1)) ∙ c .before .before .listed .ensures
 
 put-pattern-requires : tie.Need-put-pattern-requires
-put-pattern-requires c κs = let e = c .before in (size (e .before .before) .1, rw (e .before .count-of .ensures) at (e .if2 .left))
+put-pattern-requires c κs = let h = listed-parts mostPorts _ _ (sound (c .before)) in (h .1, h .2)
 
-returns-3 : tie.Need-returns-3
-unfolding unrankOf
-returns-3 c =
+returns : tie.Need-returns
+returns c = unrank-refused mostPorts _ _ _ _ (ap outcomeTold (sym (c .before .f .given .1)) ∙ c .before .before .before .listed .ensures)
+
+returns-2 : tie.Need-returns-2
+returns-2 c =
     let w = c .before .before in
-    let n = w .before .before .before in
-    let told = unrank-accepted _ _ _
-    (listed _ _ _ _ (n .before .before .in-size .ensures) (n .before .if1 .left) (n .count-of .ensures) (w .before .before .if2 .left)) in
+    let told = unrank-accepted mostPorts _ _ (sound (w .before .before)) in
     (told .0, w .put-pattern .ensures ∙ told .1)
 
 pub unrank-spec : {M : Type 1} → statement M
 unrank-spec =
-    tie.close
-    (tie.spec
-    (λ c κs. search needs)
-    (λ c κs. search needs)
-    returns
-    (λ c. omega (arith, size c .1))
-    (λ c κs. size c .1)
-    (λ c κs. search needs)
-    returns-2
-    put-pattern-requires
-    (λ c. search needs)
-    returns-3)
+    tie.close (tie.spec (λ c κs. search needs) (λ c. search needs) (λ c. search needs) put-pattern-requires returns (λ c. search needs) returns-2)

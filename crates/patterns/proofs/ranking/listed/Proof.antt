@@ -1,4 +1,4 @@
--- `dictionary::numbering::listed` tells 1, then 6, in this order.
+-- `patterns::ranking::listed` tells 1, then 6, in this order.
 -- Assumes nothing.
 use mathlib.Core.Path.{sym}
 use Prim.Native.Nat.{_≤_}
@@ -6,10 +6,10 @@ use native.Mathlib.Omega.{arith}
 use borrow.Author.Needs.{needs}
 use Rattle.listing.specs.Limits.{mostPorts}
 use Rattle.pattern_check.proofs.Calls.{out-of-size, size-within}
+use Rattle.patterns.specs.Calls.{listedOf}
 use Rattle.patterns.proofs.Calls.{listed, unlisted}
-use Rattle.dictionary_laws.specs.Calls.{listedOf}
-use Rattle.dictionary.proofs.numbering.listed.Statement.{statement}
-use Rattle.dictionary.proofs.numbering.listed.Tie as tie
+use Rattle.patterns.proofs.ranking.listed.Statement.{statement}
+use Rattle.patterns.proofs.ranking.listed.Tie as tie
 
 -- there are 2 to 20 ports
 size : (c : tie.Else1) → (2 ≤ c .before .before .args .ports) × (c .before .before .args .ports ≤ mostPorts)
