@@ -11,13 +11,13 @@ use Rattle.patterns.proofs.Calls.{listed, unlisted}
 use Rattle.patterns.proofs.ranking.listed.Statement.{statement}
 use Rattle.patterns.proofs.ranking.listed.Tie as tie
 
--- there are 2 to 20 ports
-size : (c : tie.Else1) → (2 ≤ c .before .before .args .ports) × (c .before .before .args .ports ≤ mostPorts)
-size c = size-within _ _ (c .before .in-size .ensures) (c .if1 .left)
-
 returns : tie.Need-returns
 unfolding listedOf
 returns c = rw (c .nowhere .ensures) (out-of-size _ _ _ (c .before .before .in-size .ensures) (c .before .if1 .taken))
+
+-- there are 2 to 20 ports
+size : (c : tie.Else1) → (2 ≤ c .before .before .args .ports) × (c .before .before .args .ports ≤ mostPorts)
+size c = size-within _ _ (c .before .in-size .ensures) (c .if1 .left)
 
 returns-2 : tie.Need-returns-2
 unfolding listedOf
