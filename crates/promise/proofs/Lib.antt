@@ -9,6 +9,7 @@ pub mod Steps
 pub mod Marks
 pub mod Tallies
 pub mod Differing
+pub mod Seats
 pub mod Spaces
 pub mod Leads
 pub mod Past

@@ -18,20 +18,21 @@ use Rattle.promise.specs.Onward.{markOf, newest, newMark}
 use Rattle.promise.proofs.Tests.{clash, tells-eqb, tells-and}
 use Rattle.promise.proofs.Legs.{number-below, number-step, number-leg, number-last, length-ranks, ranks-at}
 use Rattle.promise.proofs.Ways.{way-done}
-use Rattle.promise.proofs.Steps.{Closes, to-step, to-leg, to-end, Does, moves-on, hands-out, ends, closes}
-use Rattle.promise.proofs.Steps.{errs, refuses, does-so, not-ended, closing-sum, listed-here, over-here, History, stop, then}
+use Rattle.promise.proofs.Steps.{Closes, to-step, to-leg, to-end, Does, moves-on, seats-on, hands-out, ends, closes}
+use Rattle.promise.proofs.Steps.{errs, refuses, does-so, erredOn, not-ended, closing-sum, listed-here, over-here, History, stop, then}
 
--- closing a mark leaves the panel as it is and as many marks closed as were counted, and no mark stands
+-- closing a mark leaves the panel and the jack to seat as they are and as many marks closed as were counted, and no mark stands
 pub record Closed (s t : State) : Type 0 where
   pub panel : t .panel ≡ s .panel
   pub sum : t .covered + t .opened ≡ s .covered + s .opened
   pub standing : t .standing ≡ false
+  pub toSeat : t .toSeat ≡ s .toSeat
 
 -- wherever closing leads
 pub closed-so : {C : Setting} {s t : State} → Closes C s t → Closed s t
-closed-so (to-step a) = record { panel = refl; sum = refl; standing = refl }
-closed-so (to-leg a b) = record { panel = refl; sum = refl; standing = refl }
-closed-so (to-end a b) = record { panel = refl; sum = refl; standing = refl }
+closed-so (to-step a) = record { panel = refl; sum = refl; standing = refl; toSeat = refl }
+closed-so (to-leg a b) = record { panel = refl; sum = refl; standing = refl; toSeat = refl }
+closed-so (to-end a b) = record { panel = refl; sum = refl; standing = refl; toSeat = refl }
 
 -- after a report that is taken and closes its mark one more is closed
 closed-one : {C : Setting} {s t : State} {o : Option ℕ} {kind : ℕ} {a : Answer} → Does C s (reportTo o kind) a t → isClosing (reportOf kind) ≡ true → a ≡ taken
@@ -98,8 +99,9 @@ module _ (C : Setting) where
   pub carried-so : {s : State} {ts : List Turn} → History C s ts → bench (s .panel) (acts ts) ≡ leaves s ts .panel
   unfolding acts bench leaves
   carried-so (stop f) = refl
-  carried-so (then f (moves-on o os st en w) h) = carried-so h
-  carried-so (then f (hands-out st en w) h) = carried-so h
+  carried-so (then f (moves-on o os st en ns w) h) = carried-so h
+  carried-so (then f (hands-out st en ns w) h) = carried-so h
+  carried-so (then f (seats-on sn) h) = carried-so h
   carried-so (then f (ends en) h) = carried-so h
   carried-so (then {t = t} {ts = ts} f (closes st cl x) h) = subst (λ p. bench p (acts ts) ≡ leaves t ts .panel) (closed-so x .panel) (carried-so h)
   carried-so (then f (errs st lt) h) = carried-so h
@@ -110,8 +112,8 @@ module _ (C : Setting) where
       → History C s ts → (b : Bool) × (fresh again m (acts ts) ++ drop (newMark C (leaves s ts) b) (planned C) ≡ drop (newMark C s again) (planned C))
   unfolding acts fresh leaves newest
   between-so again m fa fs (stop f) = (again, refl)
-  between-so again m fa fs (then f (moves-on o os st en w) h) = between-so again m fa fs h
-  between-so {s} again m fa fs (then {t = t} {ts = ts} f (hands-out st en w) h) = go again fa (between-so false (markOf C s) (λ x. clash x refl) (λ x. refl) h)
+  between-so again m fa fs (then f (moves-on o os st en ns w) h) = between-so again m fa fs h
+  between-so {s} again m fa fs (then {t = t} {ts = ts} f (hands-out st en ns w) h) = go again fa (between-so false (markOf C s) (λ x. clash x refl) (λ x. refl) h)
     where
       plan : List (ℕ × ℕ)
       plan = planned C
@@ -135,6 +137,7 @@ module _ (C : Setting) where
         ap {B = List (ℕ × ℕ)} (λ l. markOf C s ∷ l) (r .1 ∙ ap (λ k. drop k plan) standing-new)
             ∙ sym (list-at C s f) ∙ ap (λ k. drop k plan) (sym (new-by C s false false false en st)),
       )
+  between-so again m fa fs (then f (seats-on sn) h) = between-so again m fa fs h
   between-so again m fa fs (then f (ends en) h) = between-so again m fa fs h
   between-so {s} again m fa fs (then {t = t} {ts = ts} f (closes st cl x) h) =
       let r = between-so false m (λ y. clash y refl) (λ y. clash y (closed-so x .standing)) h in (
@@ -146,7 +149,7 @@ module _ (C : Setting) where
       let r = between-so true m (λ y. fs st) (λ y. clash y refl) h in (
         r .0,
         r .1 ∙ ap (λ k. drop k (planned C))
-            (new-by C (withMark false (tallied error s)) true false false (not-ended s f st) refl ∙ sym (new-by C s again false true (not-ended s f st) st)),
+            (new-by C (erredOn s) true false false (not-ended s f st) refl ∙ sym (new-by C s again false true (not-ended s f st) st)),
       )
   between-so again m fa fs (then f (refuses k n) h) = between-so again m fa fs h
 
@@ -155,8 +158,9 @@ module _ (C : Setting) (lawful : Lawful (C .family)) (accepted : Accepted (C .fa
   pub meets-so : {s : State} {ts : List Turn} → History C s ts → Meets (C .family) (s .panel) (acts ts)
   unfolding acts Meets
   meets-so (stop f) = tt
-  meets-so (then f (moves-on o os st en w) h) = meets-so h
-  meets-so {s} (then f (hands-out st en w) h) = (way-done (C .family) lawful (here C s) (s .step) (listed-here C lawful accepted s f) (s .panel) w, meets-so h)
+  meets-so (then f (moves-on o os st en ns w) h) = meets-so h
+  meets-so {s} (then f (hands-out st en ns w) h) = (way-done (C .family) lawful (here C s) (s .step) (listed-here C lawful accepted s f) (s .panel) w, meets-so h)
+  meets-so (then f (seats-on sn) h) = meets-so h
   meets-so (then f (ends en) h) = meets-so h
   meets-so (then {ts = ts} f (closes st cl x) h) = subst (λ p. Meets (C .family) p (acts ts)) (closed-so x .panel) (meets-so h)
   meets-so (then f (errs st lt) h) = meets-so h
@@ -167,12 +171,13 @@ module _ (C : Setting) (lawful : Lawful (C .family)) (accepted : Accepted (C .fa
       → (s .standing ≡ true → m ≡ markOf C s) → History C s ts → Again again m (acts ts)
   unfolding acts Again
   again-so again m fa fs (stop f) = tt
-  again-so {s} again m fa fs (then f (moves-on o os st en w) h) = (first-try again fa, again-so again m (λ x. clash x (first-try again fa)) fs h)
+  again-so {s} again m fa fs (then f (moves-on o os st en ns w) h) = (first-try again fa, again-so again m (λ x. clash x (first-try again fa)) fs h)
     where
       first-try : (again : Bool) → (again ≡ true → (m ≡ markOf C s) × (todo C s ≡ some [])) → again ≡ false
       first-try true fa = absurd (true≢false (cc (sym w ∙ fa refl .1)))
       first-try false fa = refl
-  again-so {s} again m fa fs (then f (hands-out st en w) h) = (λ x. sym (fa x .0), again-so false (markOf C s) (λ x. clash x refl) (λ x. refl) h)
+  again-so {s} again m fa fs (then f (hands-out st en ns w) h) = (λ x. sym (fa x .0), again-so false (markOf C s) (λ x. clash x refl) (λ x. refl) h)
+  again-so again m fa fs (then f (seats-on sn) h) = again-so again m fa fs h
   again-so again m fa fs (then f (ends en) h) = again-so again m fa fs h
   again-so again m fa fs (then {ts = ts} f (closes st cl x) h) =
       subst (λ b. Again (not b) m (acts ts)) (sym cl) (again-so false m (λ y. clash y refl) (λ y. clash y (closed-so x .standing)) h)

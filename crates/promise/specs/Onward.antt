@@ -1,6 +1,6 @@
 -- Demand three from any fit state on: what went before it, and the record of the calls after it, in the words of specs/Demand.antt.
 -- Assumes nothing.
-use Prim.Native.Nat.{ℕ, zero, suc, _+_, _-_, _≤_}
+use Prim.Native.Nat.{ℕ, zero, suc, _+_, _-_, _≤_, _<_}
 use mathlib.Core.Path.{_≡_}
 use mathlib.Core.Logic.{_≢_, _↔_}
 use mathlib.Core.Bool.{Bool, true, false, not, cond, _||_}
@@ -10,9 +10,9 @@ use lib.ListN.{length, take, drop}
 use Rattle.listing.specs.Pattern.{Permutation}
 use Rattle.listing.specs.Orders.{Order, carryAll, InShape}
 use Rattle.promise.specs.Plan.{cords, Family, Leg, rankAt, marks}
-use Rattle.promise.specs.Campaign.{State, isRan, isError, isGaveUp, isClosing, movement, refusal, Setting, here, rankOf, numberOf, wanted, todo}
+use Rattle.promise.specs.Campaign.{State, isRan, isError, isGaveUp, isClosing, movement, refusal, Setting, seating, here, rankOf, numberOf, wanted, todo}
 use Rattle.promise.specs.Fitness.{Fit, Why}
-use Rattle.promise.specs.Bench.{Turn, Each, Act, moves, meets, says, bench, Meets}
+use Rattle.promise.specs.Bench.{Turn, Each, Act, moves, seats, meets, says, bench, Meets}
 use Rattle.promise.specs.Bench.{fresh, planned, Begins, Again, stands, closedLast, reports, reportedAs}
 use Rattle.promise.specs.Bench.{Rising, InTurn, Spaced, leadTo, Led, NamesFew, DiffersFew, Suits, EndRight}
 
@@ -56,6 +56,8 @@ pub record Agrees (C : Setting) (s : State) (b : Past) : Type 0 where
   pub atMark : s .standing ≡ true → (b .mark ≡ markOf C s) × (b .since ≡ [])
   -- so is a mark that comes again after an error, and its pattern is on the panel
   pub atRepeat : b .again ≡ true → (b .mark ≡ markOf C s) × (b .since ≡ []) × (s .panel ≡ wanted C s)
+  -- a jack is to be seated only after an error
+  pub atSeat : 0 < s .toSeat → b .again ≡ true
   -- after the end no order came since the last mark
   pub atEnd : s .ended ≡ true → b .since ≡ []
   -- the orders since the last mark led from a panel of all ports to the state's
@@ -68,6 +70,10 @@ pub record Agrees (C : Setting) (s : State) (b : Past) : Type 0 where
 -- a past with no error and no order since the last mark: that mark, and the panel at it
 abbrev pub noneSince : ℕ × ℕ → List ℕ → Past
 noneSince m q = record { again = false; mark = m; last = q; since = [] }
+
+-- the same after an error: jacks are to be seated, and then that mark comes again
+abbrev pub erred : ℕ × ℕ → List ℕ → Past
+erred m q = record { again = true; mark = m; last = q; since = [] }
 
 -- the past of the first state: no mark, no order, the panel at home
 abbrev pub firstPast : Setting → Past
@@ -86,13 +92,17 @@ pastBy false F l (suc k) q vs m =
     let r = rankAt F l k in
     record { again = false; mark = m; last = F .pattern r; since = carriedOut (F .orders (l .back) r) vs }
 
--- the same of a state
+-- the same of a state; one with a jack to seat tells of an error
 abbrev pub pastOf : Setting → State → Past
-pastOf C s = pastBy (s .standing || s .ended) (C .family) (here C s) (s .step) (s .panel) (todo C s) (markOf C s)
+pastOf C s =
+    cond (seating s) (erred (markOf C s) (s .panel))
+    (pastBy (s .standing || s .ended) (C .family) (here C s) (s .step) (s .panel) (todo C s) (markOf C s))
 
--- the past with one act more, on a panel that is p: an order is one more since the mark, a mark is the last one from now, a report is an error or not
+-- the past with one act more, on a panel that is p: an order is one more since the mark, a seat is none, a mark is the last one from now, a report is an error
+-- or not
 abbrev pub andThen : Past → List ℕ → Act → Past
 andThen b p (moves o) = record { again = b .again; mark = b .mark; last = b .last; since = b .since ++ (o ∷ []) }
+andThen b p (seats j) = b
 andThen b p (meets k r) = noneSince (k, r) p
 andThen b p (says w) = record { again = not (isClosing w); mark = b .mark; last = b .last; since = b .since }
 
@@ -128,7 +138,7 @@ pub record Onward (C : Setting) (p : List ℕ) (s : State) (b : Past) (ts : List
   pub ordersLead : Led C (b .again) (b .since) (b .last) p xs
   -- a mark stands from when it is handed out until its report
   pub markStands : t .standing ≡ stands (s .standing) xs
-  -- after an error the same mark comes, with its number, and no order between
+  -- after an error the same mark comes, with its number, and no movement between
   pub sameMarkAgain : Again (b .again) (b .mark) xs
   -- the counts go up by the reports
   pub coveredReports : t .covered ≡ s .covered + reports isRan xs
@@ -145,7 +155,7 @@ pub record Onward (C : Setting) (p : List ℕ) (s : State) (b : Past) (ts : List
   -- ---- and of each call by itself
   -- 'After the end, each request gives the end again', with the plan's marks; before it none does
   pub endRight : Each (EndRight C) s ts
-  -- a request is answered with an order, a mark, the end or a refusal; a report is taken or refused
+  -- a request is answered with an order, a seat, a mark, the end or a refusal; a report is taken or refused
   pub suits : Each (λ s t. Suits (t .call) (t .answered)) s ts
   -- a movement order is in shape for the panel
   pub inShape : Each (λ s t. (o : Order) → t .answered ≡ movement o → InShape (C .family .ports) o) s ts
