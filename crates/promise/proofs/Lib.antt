@@ -9,12 +9,12 @@ pub mod Steps
 pub mod Marks
 pub mod Tallies
 pub mod Differing
-pub mod Seats
 pub mod Spaces
 pub mod Leads
 pub mod Past
 pub mod Onward
 pub mod Promise
+pub mod Seats
 pub mod Circuit
 pub mod Straight
 pub mod Derangements

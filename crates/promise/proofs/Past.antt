@@ -26,6 +26,18 @@ use Rattle.promise.proofs.Steps.{erredOn, none-to-seat, listed-here, ov
 use Rattle.promise.proofs.Marks.{closed-so}
 use Rattle.promise.proofs.Leads.{next-orders}
 
+-- while jacks are seated, the past agrees whichever is next
+pub past-seated : (C : Setting) (s : State) (b : Past) (j : ℕ) → Agrees C s b → 0 < s .toSeat → Agrees C (withSeat j s) b
+past-seated C s b j g sn = record {
+  atMark = g .atMark;
+  atRepeat = g .atRepeat;
+  atSeat = λ h. g .atSeat sn;
+  atEnd = g .atEnd;
+  from = g .from;
+  carried = g .carried;
+  leading = g .leading;
+}
+
 module _ (C : Setting) (lawful : Lawful (C .family)) (accepted : Accepted (C .family) (C .legs)) where
   -- the pattern of a fit state's mark is a permutation
   wanted-here : (s : State) → Fit C s → Permutation (C .family .ports) (wanted C s)
@@ -130,18 +142,6 @@ module _ (C : Setting) (lawful : Lawful (C .family)) (accepted : Accepted (C .fa
       over : b .again ≡ true → todo C s ≡ some []
       over ag = over-here C lawful accepted s f (g .atRepeat ag .2)
 
-  -- after a seat
-  pub past-seated : (s : State) (b : Past) (j : ℕ) → Agrees C s b → 0 < s .toSeat → Agrees C (withSeat j s) b
-  past-seated s b j g sn = record {
-    atMark = g .atMark;
-    atRepeat = g .atRepeat;
-    atSeat = λ h. g .atSeat sn;
-    atEnd = g .atEnd;
-    from = g .from;
-    carried = g .carried;
-    leading = g .leading;
-  }
-
   -- after a mark
   past-marked : (s : State) (b : Past) → Fit C s → s .toSeat ≡ 0 → todo C s ≡ some []
       → Agrees C (withMark true s) (andThen b (s .panel) (meets (numberOf C s) (rankOf C s)))
@@ -197,7 +197,7 @@ module _ (C : Setting) (lawful : Lawful (C .family)) (accepted : Accepted (C .fa
   past-after {s} b g (then f (moves-on o os st en ns w) h) = past-after (andThen b (s .panel) (moves o)) (past-moved s b f g o os st en w) h
   past-after {s} b g (then f (hands-out st en ns w) h) =
       past-after (andThen b (s .panel) (meets (numberOf C s) (rankOf C s))) (past-marked s b f ns w) h
-  past-after {s} b g (then f (seats-on sn) h) = past-after b (past-seated s b (seatAfter (C .family .ports) (s .toSeat)) g sn) h
+  past-after {s} b g (then f (seats-on sn) h) = past-after b (past-seated C s b (seatAfter (C .family .ports) (s .toSeat)) g sn) h
   past-after b g (then f (ends en) h) = past-after b g h
   past-after {s} b g (then {t = t} {ts = ts} f (closes {kind = kind} st cl x) h) =
       let b' : Past = andThen b (s .panel) (says (reportOf kind)) in

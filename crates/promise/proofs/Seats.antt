@@ -2,33 +2,35 @@
 -- Assumes nothing.
 use mathlib.Core.Path.{_≡_, refl, sym, ap, ap₂, _∙_, subst}
 use mathlib.Core.Logic.{_⊎_, inl, inr}
-use mathlib.Core.Bool.{true, false, true≢false}
+use mathlib.Core.Bool.{Bool, true, false, not, cond, _&&_, true≢false, and-eq-true-iff}
 use mathlib.Core.List.{List, [], _∷_, _++_}
 use mathlib.Core.Option.{Option, none, some}
 use Prim.Native.Nat.{ℕ, zero, suc, _+_, _<_}
 use native.Mathlib.Omega.{arith}
 use lib.ListN.{length, take}
 use lib.Seq.{take-nil}
+use borrow.Author.Tests.{ltb-true, ltb-false}
 use Rattle.listing.proofs.Numbers.{either, is-cases}
 use Rattle.promise.specs.Plan.{Lawful, Accepted}
-use Rattle.promise.specs.Campaign.{State, Call, error, isClosing, Answer, seatAfter, Setting, first, todo}
+use Rattle.promise.specs.Campaign.{State, Call, error, isClosing, Answer, seating, seatAfter, Setting, first, todo}
 use Rattle.promise.specs.Fitness.{Fit}
-use Rattle.promise.specs.Bench.{Turn, turns, Act, moves, seats, meets, says, inFront, acts}
-use Rattle.promise.specs.Seats.{dueAfter, Reseats, Reseated, rowFrom, lastMark, RowAfterErrors}
-use Rattle.promise.specs.Onward.{markOf}
-use Rattle.promise.proofs.Tests.{clash}
+use Rattle.promise.specs.Bench.{Turn, run, turns, Act, moves, seats, meets, says, inFront, acts}
+use Rattle.promise.specs.Seats.{dueAfter, Reseats, Reseated, seatDue, rowFrom, lastMark, RowAfterErrors}
+use Rattle.promise.specs.Onward.{markOf, Past, Agrees, firstPast}
+use Rattle.promise.proofs.Tests.{clash, tells-not}
 use Rattle.promise.proofs.Marks.{closed-so}
 use Rattle.promise.proofs.Steps.{Does, moves-on, seats-on, hands-out, ends, closes, errs, refuses}
-use Rattle.promise.proofs.Steps.{not-ended, none-to-seat, over-here, fit-first, History, stop, then, history}
+use Rattle.promise.proofs.Promise.{agrees-first}
+use Rattle.promise.proofs.Steps.{none-to-seat, over-here, fit-first, History, stop, then, history}
 
 -- ---- of every history
 
 -- the state is one where this is due: no jack to seat, and a mark that stands is the last one; or before that mark, with nothing to come but the seats from
 -- jack j on, one past the last being the mark
-pub SeatDue : Setting → State → ℕ × ℕ → Option ℕ → Type 0
+SeatDue : Setting → State → ℕ × ℕ → Option ℕ → Type 0
 SeatDue C s m none = (s .toSeat ≡ 0) × (s .standing ≡ true → m ≡ markOf C s)
 SeatDue C s m (some j) =
-    (m ≡ markOf C s) × (s .standing ≡ false) × (s .ended ≡ false) × (todo C s ≡ some [])
+    (m ≡ markOf C s) × (s .standing ≡ false) × (todo C s ≡ some [])
     × (((0 < s .toSeat) × (j ≡ s .toSeat)) ⊎ ((s .toSeat ≡ 0) × (j ≡ suc (C .family .ports))))
 
 -- nothing has to come
@@ -48,36 +50,61 @@ module _ (C : Setting) (lawful : Lawful (C .family)) (accepted : Accepted (C .fa
       → ((l : ℕ × ℕ) (next : Option ℕ) → SeatDue C t l next → Reseats (C .family .ports) l next xs) → Reseats (C .family .ports) m due (inFront c a xs)
   unfolding Reseats SeatDue
   gives-due xs m none d f (moves-on o os st en ns w) later = later m none (ns, λ x. clash x st)
-  gives-due xs m (some j) d f (moves-on o os st en ns w) later = absurd (true≢false (cc (sym w ∙ d .3)))
+  gives-due xs m (some j) d f (moves-on o os st en ns w) later = absurd (true≢false (cc (sym w ∙ d .2)))
   gives-due xs m none d f (seats-on sn) later = absurd (omega (arith, d .0))
   gives-due {s} xs m (some j) d f (seats-on sn) later =
-      let at : j ≡ s .toSeat = either (d .4) (λ x. x .1) (λ x. absurd (omega (arith, x .0))) in
-      (sym at, omega (arith, f .seat), later m (some (suc j)) (d .0, d .1, d .2, d .3, seat-on (C .family .ports) (s .toSeat) j at))
+      let at : j ≡ s .toSeat = either (d .3) (λ x. x .1) (λ x. absurd (omega (arith, x .0))) in
+      (sym at, omega (arith, f .seat), later m (some (suc j)) (d .0, d .1, d .2, seat-on (C .family .ports) (s .toSeat) j at))
   gives-due {s} xs m none d f (hands-out st en ns w) later = later (markOf C s) none (ns, λ x. refl)
   gives-due {s} xs m (some j) d f (hands-out st en ns w) later =
-      (either (d .4) (λ x. absurd (omega (arith, x .0))) (λ x. x .1), sym (d .0), later m none (ns, λ x. d .0))
+      (either (d .3) (λ x. absurd (omega (arith, x .0))) (λ x. x .1), sym (d .0), later m none (ns, λ x. d .0))
   gives-due xs m none d f (ends en) later = later m none d
-  gives-due xs m (some j) d f (ends en) later = clash en (d .2)
+  gives-due xs m (some j) d f (ends en) later = later m (some j) d
   gives-due {s} xs m none d f (closes st cl x) later =
       subst (λ b. Reseats (C .family .ports) m (dueAfter b) xs) (sym cl)
       (later m none (closed-so x .toSeat ∙ none-to-seat s f st, λ y. clash y (closed-so x .standing)))
   gives-due xs m (some j) d f (closes st cl x) later = clash st (d .1)
   gives-due {s} xs m none d f (errs st lt) later =
-      later m (some 1) (d .1 st, refl, not-ended s f st, over-here C lawful accepted s f (f .atMark st), inl (omega arith, refl))
+      later m (some 1) (d .1 st, refl, over-here C lawful accepted s f (f .atMark st), inl (omega arith, refl))
   gives-due xs m (some j) d f (errs st lt) later = clash st (d .1)
   gives-due xs m none d f (refuses k n) later = later m none d
   gives-due xs m (some j) d f (refuses k n) later = later m (some j) d
 
   -- so of every history
-  pub reseats-so : {s : State} {ts : List Turn} (m : ℕ × ℕ) (due : Option ℕ) → SeatDue C s m due → History C s ts → Reseats (C .family .ports) m due (acts ts)
+  reseats-so : {s : State} {ts : List Turn} (m : ℕ × ℕ) (due : Option ℕ) → SeatDue C s m due → History C s ts → Reseats (C .family .ports) m due (acts ts)
   unfolding acts
   reseats-so m due d (stop f) = over (C .family .ports) m due
   reseats-so m due d (then {ts = ts} f x h) = gives-due (acts ts) m due d f x (λ l next e. reseats-so l next e h)
 
-  -- so of any calls on the plan
+  -- in a fit state what is due is so
+  due-here : (s : State) → Fit C s → (b : Past) → Agrees C s b → SeatDue C s (b .mark) (seatDue C s b)
+  unfolding SeatDue
+  due-here s f b g = by-seat (seating s) refl
+    where
+      by-mark : (b' : Bool) → (b .again && not (s .standing)) ≡ b' → s .toSeat ≡ 0
+          → SeatDue C s (b .mark) (cond b' (some (suc (C .family .ports))) none)
+      by-mark true e ns =
+          let both = and-eq-true-iff (b .again) (not (s .standing)) .0 e in
+          let past = g .atRepeat (both .0) in
+          (past .0, tells-not (s .standing) .0 (both .1), over-here C lawful accepted s f (past .2), inr (ns, refl))
+      by-mark false e ns = (ns, λ st. g .atMark st .0)
+
+      by-seat : (b' : Bool) → seating s ≡ b' → SeatDue C s (b .mark) (cond b' (some (s .toSeat)) (cond (b .again && not (s .standing)) (some (suc (C .family .ports))) none))
+      by-seat true e =
+          let sn : 0 < s .toSeat = ltb-true 0 (s .toSeat) e in
+          let past = g .atRepeat (g .atSeat sn) in
+          (past .0, f .seated sn .0, over-here C lawful accepted s f (past .2), inl (sn, refl))
+      by-seat false e = by-mark (b .again && not (s .standing)) refl (omega (arith, ltb-false 0 (s .toSeat) e))
+
+  -- so of any calls from any fit state on, with its past
+  pub reseats-onward : (s : State) → Fit C s → (b : Past) → Agrees C s b → (cs : List Call)
+      → Reseats (C .family .ports) (b .mark) (seatDue C s b) (acts (run C cs s))
+  reseats-onward s f b g cs = reseats-so (b .mark) (seatDue C s b) (due-here s f b g) (history C lawful accepted cs s f)
+
+  -- and from the first one: after an error exactly the seats come and then the same mark
   pub reseated : (cs : List Call) → Reseated (C .family .ports) (acts (turns C cs))
-  unfolding first SeatDue
-  reseated cs = reseats-so (0, 0) none (refl, λ x. clash x refl) (history C lawful accepted cs (first C) (fit-first C lawful accepted))
+  unfolding first
+  reseated cs = reseats-onward (first C) (fit-first C lawful accepted) (firstPast C) (agrees-first C lawful accepted) cs
 
 -- ---- error by error
 

@@ -3,12 +3,13 @@
 -- Assumes nothing.
 use Prim.Native.Nat.{ℕ, zero, suc, _≤_}
 use mathlib.Core.Path.{_≡_}
-use mathlib.Core.Bool.{Bool, cond}
+use mathlib.Core.Bool.{Bool, not, cond, _&&_}
 use mathlib.Core.List.{List, [], _∷_, _++_}
 use mathlib.Core.Option.{Option, none, some}
 use lib.ListN.{length, take}
-use Rattle.promise.specs.Campaign.{error, isClosing}
+use Rattle.promise.specs.Campaign.{State, error, isClosing, seating, Setting}
 use Rattle.promise.specs.Bench.{Act, moves, seats, meets, says}
+use Rattle.promise.specs.Onward.{Past}
 
 -- ---- act by act
 
@@ -33,6 +34,10 @@ Reseats n m (some j) (says w ∷ xs) = ⊥
 -- so of a whole campaign
 abbrev pub Reseated : ℕ → List Act → Type 0
 Reseated n xs = Reseats n (0, 0) none xs
+
+-- what is due in a state with its past: the next jack to seat; the mark where the last report was an error and all are seated; else nothing
+abbrev pub seatDue : Setting → State → Past → Option ℕ
+seatDue C s b = cond (seating s) (some (s .toSeat)) (cond (b .again && not (s .standing)) (some (suc (C .family .ports))) none)
 
 -- ---- error by error
 

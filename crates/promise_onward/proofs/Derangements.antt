@@ -17,6 +17,7 @@ use Rattle.promise.proofs.Circuit.{circuit-accepts, one-leg-accepted}
 use Rattle.promise.proofs.Derangements.{lawful, circuit, lawful-on, circuit-on, all-met}
 use Rattle.promise.proofs.Past.{own-past}
 use Rattle.promise.proofs.Onward.{onward-fit}
+use Rattle.promise_onward.specs.Resume.{Settled}
 use Rattle.promise_onward.specs.Lives.{Event, Possible, through, Moment, AreMoments, keptCalls, LivedThrough}
 use Rattle.promise_onward.proofs.Lives.{lived-through, lived-demand}
 
@@ -33,16 +34,16 @@ module _ (n : ℕ) (ports : 2 ≤ n) (legs : List Leg) (width : Answer → ℕ) 
   onward-on = onward-fit (onPorts n legs width) (lawful-on n ports) accepted
 
   -- through any power cuts
-  pub lived-on : let C = onPorts n legs width in (s : State) → Fit C s → (p : List ℕ) → p ≡ s .panel → (es : List Event) → Possible C es s
+  pub lived-on : let C = onPorts n legs width in (s : State) → Fit C s → Settled s → (p : List ℕ) → p ≡ s .panel → (es : List Event) → Possible C es s
       → LivedThrough C p s (pastOf C s) es
-  lived-on s f =
+  lived-on s f z =
       let C : Setting = onPorts n legs width in
-      lived-through C (lawful-on n ports) accepted s f (pastOf C s) (own-past C (lawful-on n ports) accepted s f)
+      lived-through C (lawful-on n ports) accepted s f z (pastOf C s) (own-past C (lawful-on n ports) accepted s f)
 
 -- 'f. A plan of one full circuit that has ended has met every derangement exactly once, repeats apart': through any power cuts, of the calls that are kept
 pub all-met-lived : (m : ℕ) (l : Leg) (width : Answer → ℕ) → l .start < count (suc (suc m)) → suc (l .run) ≡ count (suc (suc m)) → (es : List Event)
     → let C = onPorts (suc (suc m)) (l ∷ []) width in Possible C es (first C) → through C es (first C) .ended ≡ true
-    → (ms : List Moment) × AreMoments es ms × FullCircuit (derangements (suc (suc m))) (acts (turns C (keptCalls ms)))
+    → (ms : List Moment) × AreMoments C (first C) es ms × FullCircuit (derangements (suc (suc m))) (acts (turns C (keptCalls ms)))
 unfolding derangements
 all-met-lived m l width fits full es h ended =
     let C : Setting = onPorts (suc (suc m)) (l ∷ []) width in

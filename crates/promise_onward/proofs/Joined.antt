@@ -7,15 +7,16 @@ use mathlib.Core.List.{List, [], _∷_, _++_}
 use Prim.Native.Nat.{ℕ}
 use Rattle.listing.proofs.Numbers.{either}
 use Rattle.promise.specs.Plan.{Lawful, Accepted}
-use Rattle.promise.specs.Campaign.{State, Call, Answer, movement, mark, theEnd, taken, refusal, request, reportTo, Setting, first, answer}
-use Rattle.promise.specs.Bench.{Turn, run, leaves, turns, leftBy, Act, moves, meets, says, inFront, acts, bench, isMark, fresh, marksMet}
+use Rattle.promise.specs.Campaign.{State, Call, Answer, movement, seat, mark, theEnd, taken, refusal, request, reportTo, Setting, first, answer}
+use Rattle.promise.specs.Bench.{Turn, run, leaves, turns, leftBy, Act, moves, seats, meets, says, inFront, acts, bench, isMark, fresh, marksMet}
 use Rattle.promise.specs.Demand.{Demand}
 use Rattle.promise.specs.Onward.{Past, Agrees, firstPast, andThen, andAll}
 use Rattle.promise.proofs.Steps.{History, fit-first, fit-last, history}
 use Rattle.promise.proofs.Past.{past-after}
 use Rattle.promise.proofs.Promise.{agrees-first, promise}
-use Rattle.promise_onward.specs.Resume.{resumed}
+use Rattle.promise_onward.specs.Resume.{Settled, resumed}
 use Rattle.promise_onward.specs.Cuts.{left, pastAfter, Cut}
+use Rattle.promise_onward.proofs.Panels.{anew-settled}
 use Rattle.promise_onward.proofs.Cuts.{cut-so}
 
 -- ---- turns one after the other
@@ -36,6 +37,7 @@ leaves-append s (t ∷ ts) us = leaves-append (t .left) ts us
 -- an act in front stays in front
 front-append : (c : Call) (a : Answer) (xs ys : List Act) → inFront c a (xs ++ ys) ≡ inFront c a xs ++ ys
 front-append c (movement o) xs ys = refl
+front-append c (seat j) xs ys = refl
 front-append c (mark k r) xs ys = refl
 front-append c (theEnd k) xs ys = refl
 front-append (request room) taken xs ys = refl
@@ -51,9 +53,10 @@ acts-append (t ∷ ts) us = ap (inFront (t .call) (t .answered)) (acts-append ts
 -- the marks, repeats struck out, are those of the first part and then those of the second with what went before it
 fresh-append : (xs ys : List Act) (b : Past) (p : List ℕ)
     → fresh (b .again) (b .mark) (xs ++ ys) ≡ fresh (b .again) (b .mark) xs ++ fresh (andAll b p xs .again) (andAll b p xs .mark) ys
-unfolding fresh andAll
+unfolding fresh andAll bench
 fresh-append [] ys b p = refl
 fresh-append (moves o ∷ xs) ys b p = fresh-append xs ys (andThen b p (moves o)) (bench p (moves o ∷ []))
+fresh-append (seats j ∷ xs) ys b p = fresh-append xs ys b p
 fresh-append (meets k r ∷ xs) ys b p =
     let b' : Past = andThen b p (meets k r) in
     let p' : List ℕ = bench p (meets k r ∷ []) in
@@ -91,20 +94,21 @@ module _ (C : Setting) (lawful : Lawful (C .family)) (accepted : Accepted (C .fa
   unfolding first
   agrees-left = past-after C lawful accepted (firstPast C) (agrees-first C lawful accepted) told
 
-  -- after a cut in the call c the turns before and after it are those of a campaign with no cut, in which c was lost or kept
-  pub cut-joined : (c : Call) (x : State) (q : List ℕ) → Cut C c (leftBy C cs) x q → (ds : List Call)
+  -- after a cut in the call c that broke no row of seats the turns before and after it are those of a campaign with no cut, in which c was lost or kept. (Of a
+  -- row that is broken proofs/Lives.antt speaks.)
+  pub cut-joined : (c : Call) (x : State) (q : List ℕ) → Settled (leftBy C cs) → Settled (left C c (leftBy C cs)) → Cut C c (leftBy C cs) x q → (ds : List Call)
       → (turns C cs ++ run C ds (resumed q x) ≡ turns C (cs ++ ds))
       ⊎ (turns C cs ++ (run C (c ∷ []) (leftBy C cs) ++ run C ds (resumed q x)) ≡ turns C (cs ++ c ∷ ds))
   unfolding run
-  cut-joined c x q k ds =
+  cut-joined c x q a z k ds =
       either (cut-so C lawful accepted c (leftBy C cs) (fit-last told) (pastAfter C cs) agrees-left x q k)
-      (λ u. inl (ap (λ y. turns C cs ++ run C ds y) (u .same) ∙ sym (run-append C cs ds (first C))))
-      (λ u. inr (ap (λ y. turns C cs ++ (run C (c ∷ []) (leftBy C cs) ++ run C ds y)) (u .same) ∙ sym (run-append C cs (c ∷ ds) (first C))))
+      (λ u. inl (ap (λ y. turns C cs ++ run C ds y) (u .same ∙ anew-settled (leftBy C cs) a) ∙ sym (run-append C cs ds (first C))))
+      (λ u. inr (ap (λ y. turns C cs ++ (run C (c ∷ []) (leftBy C cs) ++ run C ds y)) (u .same ∙ anew-settled (left C c (leftBy C cs)) z) ∙ sym (run-append C cs (c ∷ ds) (first C))))
 
   -- so demand three holds of the turns before the cut and after it together
-  pub cut-demand : (c : Call) (x : State) (q : List ℕ) → Cut C c (leftBy C cs) x q → (ds : List Call)
+  pub cut-demand : (c : Call) (x : State) (q : List ℕ) → Settled (leftBy C cs) → Settled (left C c (leftBy C cs)) → Cut C c (leftBy C cs) x q → (ds : List Call)
       → Demand C (turns C cs ++ run C ds (resumed q x)) ⊎ Demand C (turns C cs ++ (run C (c ∷ []) (leftBy C cs) ++ run C ds (resumed q x)))
-  cut-demand c x q k ds =
-      either (cut-joined c x q k ds)
+  cut-demand c x q a z k ds =
+      either (cut-joined c x q a z k ds)
       (λ e. inl (subst (Demand C) (sym e) (promise C lawful accepted (cs ++ ds))))
       (λ e. inr (subst (Demand C) (sym e) (promise C lawful accepted (cs ++ c ∷ ds))))

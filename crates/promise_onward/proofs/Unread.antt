@@ -1,5 +1,5 @@
--- Wrong practice by computation, on 4 ports: a saved state that goes on without the panel read back, and a report repeated too late. And a mark that a cut
--- lost.
+-- Wrong practice by computation, on 4 ports: a saved state that goes on without the panel read back, and a report repeated too late; and a mark that a cut
+-- lost. On 2 ports: the state of the last seat saved before that seat is done.
 -- Assumes nothing.
 use mathlib.Core.Path.{_≡_, refl, sym, _∙_, subst}
 use mathlib.Core.Bool.{true, false}
@@ -19,7 +19,7 @@ use Rattle.listing.specs.Neighbours.{nextRank, previousRank, inside, onFrom, ne
 use Rattle.promise.specs.Tests.{all, implies, isPermutation, same}
 use Rattle.promise.specs.Carriage.{holder, carriageFrom, carriage}
 use Rattle.promise.specs.Plan.{marks, number}
-use Rattle.promise.specs.Campaign.{State, ran, request, report, reportOn, movement, mark, taken, refusal, Setting}
+use Rattle.promise.specs.Campaign.{State, withSeat, ran, request, report, reportOn, movement, seat, mark, taken, refusal, Setting}
 use Rattle.promise.specs.Campaign.{rest, toCome, first, fit, offer, answer, closed, heard, after}
 use Rattle.promise.specs.Bench.{run, leaves, leftBy, Act, moves, meets, says, acts, Meets}
 use Rattle.promise.specs.Derangements.{derangements, onPorts}
@@ -76,13 +76,31 @@ lostMark = lost (request 45) ∷ kept (request 45) ∷ kept (report 0) ∷ []
 abbrev pub MetTwice : Type 0
 MetTwice = (happened twice lostMark (first twice) ≡ meets 0 0 ∷ meets 0 0 ∷ says ran ∷ []) × (leftBy twice (keptCalls lostMark) .covered ≡ 1)
 
+-- ---- the state of the last seat saved too early
+
+-- ports=2, legs=1, start=0, run=0; its mark is reported as an error, and jack 1 is seated
+unfoldable pub pair : Setting
+pair = onPorts 2 (record { start = 0; back = false; run = 0 } ∷ []) (λ a. 45)
+
+unfoldable pub atLastSeat : State
+atLastSeat = leftBy pair (request 45 ∷ report 1 ∷ request 45 ∷ [])
+
+-- the next request gives the last seat. Where the state before it was saved the seats begin anew; where the state after it was, the mark comes at once, and
+-- nothing shows whether jack 2 was seated
+abbrev pub SavedEarly : Type 0
+SavedEarly =
+    (answer pair (request 45) atLastSeat ≡ seat 2)
+    × (resume pair (home 2) atLastSeat ≡ goesOn (withSeat 1 atLastSeat))
+    × (resume pair (home 2) (left pair (request 45) atLastSeat) ≡ goesOn (withSeat 0 atLastSeat))
+    × (answer pair (request 45) (withSeat 0 atLastSeat) ≡ mark 0 0)
+
 -- ---- all of it by computation
 
-computed : GoesOn × Panels × TooLate × MetTwice
-unfolding short savedShort twoActs twice lostMark answers resume happened keptCalls acts run leaves first fit offer answer closed heard after rest toCome orElse
+computed : GoesOn × Panels × TooLate × MetTwice × SavedEarly
+unfolding short savedShort twoActs twice lostMark pair atLastSeat answers resume happened keptCalls acts run leaves first fit offer answer closed heard after rest toCome orElse
     marks number holder carriageFrom carriage all implies isPermutation same derangements nextRank previousRank inside onFrom nextMove previousMove hopB hopA hop
     join4 join5 join closing source carry carryAll home joined block blocks listing at stepA stepB count tabulate is trade raise lower odd
-computed = ((refl, refl, refl, refl, refl), (refl, refl), (refl, refl, refl), (refl, refl))
+computed = ((refl, refl, refl, refl, refl), (refl, refl), (refl, refl, refl), (refl, refl), (refl, refl, refl, refl))
 
 -- the saved state goes on without the panel read back, no call is refused, and the mark counts as covered
 pub goes-on-unread : GoesOn
@@ -103,3 +121,7 @@ too-late = computed .2
 -- a mark that a cut lost may be run twice, and is counted once
 pub met-twice : MetTwice
 met-twice = computed .3
+
+-- so the state of a seat is saved only when the seat is done
+pub saved-early : SavedEarly
+saved-early = computed .4

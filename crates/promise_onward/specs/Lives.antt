@@ -3,9 +3,10 @@
 use Prim.Native.Nat.{ℕ}
 use mathlib.Core.Path.{_≡_}
 use mathlib.Core.List.{List, [], _∷_}
-use Rattle.promise.specs.Campaign.{State, Call, Answer, movement, mark, theEnd, taken, refusal, Setting, answer}
+use Rattle.promise.specs.Campaign.{State, Call, Answer, movement, seat, mark, theEnd, taken, refusal, Setting, answer}
 use Rattle.promise.specs.Bench.{Act, meets, inFront, run, leaves, acts, bench, Meets}
 use Rattle.promise.specs.Onward.{Past, Onward}
+use Rattle.promise.specs.Seats.{Reseats, seatDue}
 use Rattle.promise_onward.specs.Resume.{resumed}
 use Rattle.promise_onward.specs.Cuts.{left, Cut}
 
@@ -35,12 +36,26 @@ pub data Moment : Type 0 where
   kept : Call → Moment
   lost : Call → Moment
 
--- the moments are those of the events: a call that is made is kept, and one in which the power fails is kept or lost
-pub data AreMoments : List Event → List Moment → Type 0 where
-  none : AreMoments [] []
-  made-kept : {es : List Event} {ms : List Moment} (c : Call) → AreMoments es ms → AreMoments (made c ∷ es) (kept c ∷ ms)
-  cut-kept : {es : List Event} {ms : List Moment} (c : Call) (x : State) (q : List ℕ) → AreMoments es ms → AreMoments (cut c x q ∷ es) (kept c ∷ ms)
-  cut-lost : {es : List Event} {ms : List Moment} (c : Call) (x : State) (q : List ℕ) → AreMoments es ms → AreMoments (cut c x q ∷ es) (lost c ∷ ms)
+-- an answer that a row of seats has: a seat, or a refusal beside it
+abbrev pub OfRow : Answer → Type 0
+OfRow (movement o) = ⊥
+OfRow (seat j) = Unit {0}
+OfRow (mark k r) = ⊥
+OfRow (theEnd k) = ⊥
+OfRow taken = ⊥
+OfRow (refusal k) = Unit {0}
+
+-- the moments are those of the events from state s on: a call that is made is kept, and one in which the power fails is kept or lost; the seats of a row that
+-- a later cut broke are lost with it, since the row begins anew
+pub data AreMoments (C : Setting) : State → List Event → List Moment → Type 0 where
+  none : {s : State} → AreMoments C s [] []
+  made-kept : {s : State} {es : List Event} {ms : List Moment} (c : Call) → AreMoments C (left C c s) es ms → AreMoments C s (made c ∷ es) (kept c ∷ ms)
+  row-broken : {s : State} {es : List Event} {ms : List Moment} (c : Call) → OfRow (answer C c s) → AreMoments C (left C c s) es ms
+      → AreMoments C s (made c ∷ es) (lost c ∷ ms)
+  cut-kept : {s : State} {es : List Event} {ms : List Moment} (c : Call) (x : State) (q : List ℕ) → AreMoments C (resumed q x) es ms
+      → AreMoments C s (cut c x q ∷ es) (kept c ∷ ms)
+  cut-lost : {s : State} {es : List Event} {ms : List Moment} (c : Call) (x : State) (q : List ℕ) → AreMoments C (resumed q x) es ms
+      → AreMoments C s (cut c x q ∷ es) (lost c ∷ ms)
 
 -- the calls that are kept
 unfoldable pub keptCalls : List Moment → List Call
@@ -49,9 +64,10 @@ keptCalls (kept c ∷ ms) = c ∷ keptCalls ms
 keptCalls (lost c ∷ ms) = keptCalls ms
 
 -- what a lost answer was on the bench, in front of others: a lost mark was met, and its traffic may have run; a lost order was not carried out, for else the
--- panel tells of it and the call is kept; a lost report was not heard
+-- panel tells of it and the call is kept; a lost seat counts for nothing, done or not, since its row begins anew; a lost report was not heard
 abbrev pub lostInFront : Answer → List Act → List Act
 lostInFront (movement o) xs = xs
+lostInFront (seat j) xs = xs
 lostInFront (mark k r) xs = meets k r ∷ xs
 lostInFront (theEnd k) xs = xs
 lostInFront taken xs = xs
@@ -80,6 +96,8 @@ LostAgain C (lost c ∷ ms) s = ((k r : ℕ) → answer C c s ≡ mark k r → N
 pub record Lived (C : Setting) (p : List ℕ) (s : State) (b : Past) (ms : List Moment) : Type 0 where
   -- the calls that are kept are a campaign with no cut, and demand three holds of it: what is counted is counted once, on what is kept
   pub asUncut : Onward C p s b (run C (keptCalls ms) s) (acts (run C (keptCalls ms) s)) (leaves s (run C (keptCalls ms) s))
+  -- after an error exactly the seats 1 to n come in turn and then the same mark, however often the power fails
+  pub reseats : Reseats (C .family .ports) (b .mark) (seatDue C s b) (acts (run C (keptCalls ms) s))
   -- every mark meets the pattern of its rank, the lost ones too
   pub everyMarkMeets : Meets (C .family) p (happened C ms s)
   -- a lost mark is met again, and no order comes between
@@ -90,6 +108,6 @@ pub record Lived (C : Setting) (p : List ℕ) (s : State) (b : Past) (ms : List 
 -- whatever a bench goes through is such a life, and it comes out with the state that the kept calls leave
 pub record LivedThrough (C : Setting) (p : List ℕ) (s : State) (b : Past) (es : List Event) : Type 0 where
   pub moments : List Moment
-  pub those : AreMoments es moments
+  pub those : AreMoments C s es moments
   pub comesOut : through C es s ≡ leaves s (run C (keptCalls moments) s)
   pub lived : Lived C p s b moments
