@@ -11,7 +11,7 @@ use Rattle.listing.specs.Orders.{Order, swap, turn, InShape}
 use Rattle.words.specs.Shape.{within, oneOf, rising, shaped, lineFits, LineFits}
 use Rattle.words.specs.Meaning.{orderOf}
 use Rattle.words.specs.declared.Line.{Line}
-use Rattle.words.specs.declared.Line.the-variants.{Movement, Mark, End}
+use Rattle.words.specs.declared.Line.the-variants.{Movement, Seat, Mark, End}
 
 -- both tests hold where their conjunction does
 both : (a b : Bool) → (a && b) ≡ true → (a ≡ true) × (b ≡ true)
@@ -83,17 +83,20 @@ shape-more n k (turn a b c) h s = (s .0, s .1, omega arith, s .3, omega arith, s
 -- a line that fits passes the test
 pub fits-passes : (n : ℕ) (l : Line) → LineFits n l → lineFits n l ≡ true
 fits-passes n (Movement o) h = shape-shaped n (orderOf o) h
+fits-passes n (Seat j) h = among-one n (j .0) h
 fits-passes n (Mark m r) h = refl
 fits-passes n (End m) h = refl
 
 -- and one that passes it fits
 pub passes-fits : (n : ℕ) (l : Line) → lineFits n l ≡ true → LineFits n l
 passes-fits n (Movement o) e = shaped-shape n (orderOf o) e
+passes-fits n (Seat j) e = one-of n (j .0) e
 passes-fits n (Mark m r) e = tt
 passes-fits n (End m) e = tt
 
 -- what fits some jacks fits more
 pub fits-more : (n k : ℕ) (l : Line) → n ≤ k → lineFits n l ≡ true → lineFits k l ≡ true
 fits-more n k (Movement o) h e = shape-shaped k (orderOf o) (shape-more n k (orderOf o) h (shaped-shape n (orderOf o) e))
+fits-more n k (Seat j) h e = let t = one-of n (j .0) e in among-one k (j .0) (t .0, omega arith)
 fits-more n k (Mark m r) h e = refl
 fits-more n k (End m) h e = refl

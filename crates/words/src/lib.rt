@@ -24,9 +24,11 @@ pub enum Move {
     Two(Jack, Jack, Jack, Jack),
 }
 
-// A line of the campaign: a movement order, a mark with its number and rank, the end with the plan's marks.
+// A line of the campaign: a movement order, a seat, where the cord at a jack is seated anew and the panel stays, a mark with its number and rank, the end with
+// the plan's marks.
 pub enum Line {
     Movement(Order),
+    Seat(Jack),
     Mark(u64, u64),
     End(u64),
 }
