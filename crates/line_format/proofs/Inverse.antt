@@ -16,12 +16,12 @@ use Rattle.words.specs.Shape.{lineFits}
 use Rattle.words.specs.Told.{Told, accepted, refused, nowhere, then, need}
 use Rattle.words.specs.declared.Order.the-variants.{Swap, Turn}
 use Rattle.words.specs.declared.Line.{Line}
-use Rattle.words.specs.declared.Line.the-variants.{Movement, Mark, End}
+use Rattle.words.specs.declared.Line.the-variants.{Movement, Seat, Mark, End}
 use Rattle.words.proofs.Shape.{fits-passes, passes-fits}
 use Rattle.text_keys.specs.Parts.{newline, firstOf, begins, cut, afterKey}
 use Rattle.text_keys.proofs.Cuts.{first-append, cut-joined, cut-parts}
 use Rattle.text_keys.proofs.Keys.{key-after}
-use Rattle.line_format.specs.Format.{Kind, swapping, turning, marking, ending, key, commas, Numbers, AllUpTo, listed}
+use Rattle.line_format.specs.Format.{Kind, swapping, turning, seating, marking, ending, key, commas, Numbers, AllUpTo, listed}
 use Rattle.line_format.specs.Format.{kindOf, numbersOf, lineOf, keyText, unended, lineText}
 use Rattle.line_format.specs.Reading.{numbersIn, Proper, fitting, numbersTold, keyed, lineIn, readOf}
 use Rattle.line_format.specs.Campaign.{OfCampaign}
@@ -45,6 +45,7 @@ fitting-accepted n l m e = by (lineFits n l) refl e
 line-of-numbers : (l : Line) → lineOf (kindOf l) (numbersOf l) ≡ l
 line-of-numbers (Movement (Swap a b)) = refl
 line-of-numbers (Movement (Turn a b c)) = refl
+line-of-numbers (Seat j) = refl
 line-of-numbers (Mark m r) = refl
 line-of-numbers (End m) = refl
 
@@ -53,6 +54,7 @@ unended-of-line : (k : Kind) (x : Numbers (commas k)) → unended (lineOf k x) �
 unfolding unended
 unended-of-line swapping x = refl
 unended-of-line turning x = refl
+unended-of-line seating n = refl
 unended-of-line marking x = refl
 unended-of-line ending n = refl
 
@@ -61,6 +63,7 @@ all-of-line : (most : ℕ) (k : Kind) (x : Numbers (commas k)) → AllUpTo most 
     → AllUpTo most (commas (kindOf (lineOf k x))) (numbersOf (lineOf k x))
 all-of-line most swapping x h = h
 all-of-line most turning x h = h
+all-of-line most seating n h = h
 all-of-line most marking x h = h
 all-of-line most ending n h = h
 
@@ -69,6 +72,7 @@ key-clear : (k : Kind) → firstOf newline (key k) ≡ none
 unfolding firstOf
 key-clear swapping = refl
 key-clear turning = refl
+key-clear seating = refl
 key-clear marking = refl
 key-clear ending = refl
 
@@ -95,6 +99,7 @@ module _ (most jacks : ℕ) where
   unfolding lineIn begins
   line-keyed swapping v = refl
   line-keyed turning v = refl
+  line-keyed seating v = refl
   line-keyed marking v = refl
   line-keyed ending v = refl
 
@@ -128,8 +133,9 @@ module _ (most jacks : ℕ) where
   line-kind t l e =
       either (by-key swapping t _ l e) (λ x. x)
       (λ e. either (by-key turning t _ l e) (λ x. x)
+      (λ e. either (by-key seating t _ l e) (λ x. x)
       (λ e. either (by-key marking t _ l e) (λ x. x)
-      (λ e. either (by-key ending t _ l e) (λ x. x) (λ e. absurd (not-both e)))))
+      (λ e. either (by-key ending t _ l e) (λ x. x) (λ e. absurd (not-both e))))))
 
   -- a text that is judged good is the text of its line
   read-unended : (t : List ℕ) (l : Line) → lineIn most jacks t ≡ accepted l → (t ≡ unended l) × Proper most jacks l
@@ -214,5 +220,6 @@ module _ (most jacks : ℕ) where
 pub campaign-proper : (jacks most ranks : ℕ) → jacks ≤ most → ranks ≤ most → (l : Line) → OfCampaign jacks most ranks l → Proper most jacks l
 campaign-proper jacks most ranks j r (Movement (Swap a b)) h = record { fits = h; numbers = (omega arith, omega arith) }
 campaign-proper jacks most ranks j r (Movement (Turn a b c)) h = record { fits = h; numbers = (omega arith, (omega arith, omega arith)) }
+campaign-proper jacks most ranks j r (Seat i) h = record { fits = h; numbers = omega arith }
 campaign-proper jacks most ranks j r (Mark m k) h = record { fits = tt; numbers = (h .0, omega arith) }
 campaign-proper jacks most ranks j r (End m) h = record { fits = tt; numbers = h }

@@ -10,11 +10,11 @@ use Rattle.listing.specs.Limits.{mostPorts, largest64}
 use Rattle.listing.proofs.Limits.{count-20}
 use Rattle.words.specs.declared.Order.the-variants.{Swap, Turn}
 use Rattle.words.specs.declared.Line.{Line}
-use Rattle.words.specs.declared.Line.the-variants.{Movement, Mark, End}
+use Rattle.words.specs.declared.Line.the-variants.{Movement, Seat, Mark, End}
 use Rattle.text_numbers.specs.Decimal.{digitsOf}
 use Rattle.text_numbers.proofs.Lengths.{digits-at-most, digits-above, digits-64}
 use Rattle.text_keys.specs.Parts.{comma}
-use Rattle.line_format.specs.Format.{swapping, turning, marking, ending, key, Numbers, listed, keyText, unended, lineText}
+use Rattle.line_format.specs.Format.{swapping, turning, seating, marking, ending, key, Numbers, listed, keyText, unended, lineText}
 use Rattle.line_format.specs.Campaign.{OfCampaign, mostBytes}
 use Rattle.line_format.proofs.Inverse.{text-length}
 
@@ -59,6 +59,8 @@ at-most-45 (Movement (Turn a b c)) h =
       digits-at-most 1 (b .0) (omega arith),
       digits-at-most 1 (c .0) (omega arith),
     )
+at-most-45 (Seat j) h =
+    omega (arith, line-length (Seat j) (key seating) (listed 0 (j .0)) refl, one-length (j .0), digits-at-most 1 (j .0) (omega arith))
 at-most-45 (Mark m r) h =
     omega (
       arith,

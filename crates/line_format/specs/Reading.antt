@@ -11,7 +11,7 @@ use Rattle.words.specs.Shape.{lineFits, LineFits}
 use Rattle.words.specs.declared.Line.{Line}
 use Rattle.text_numbers.specs.Decimal.{numberUpTo}
 use Rattle.text_keys.specs.Parts.{newline, comma, cut, afterKey}
-use Rattle.line_format.specs.Format.{Kind, swapping, turning, marking, ending, key, commas, Numbers, AllUpTo, kindOf, numbersOf, lineOf}
+use Rattle.line_format.specs.Format.{Kind, swapping, turning, seating, marking, ending, key, commas, Numbers, AllUpTo, kindOf, numbersOf, lineOf}
 
 -- ---- form and count of numbers
 
@@ -49,9 +49,10 @@ unfoldable pub lineIn : ℕ → ℕ → List ℕ → Told Line
 lineIn most jacks t =
     keyed most jacks swapping (afterKey (key swapping) t)
     (keyed most jacks turning (afterKey (key turning) t)
+    (keyed most jacks seating (afterKey (key seating) t)
     (keyed most jacks marking (afterKey (key marking) t)
     (keyed most jacks ending (afterKey (key ending) t)
-    (refused 7 nowhere))))
+    (refused 7 nowhere)))))
 
 -- 'newline (11, also at or past the end of the slice)': the line that begins at a place of a text, and the place after its newline
 unfoldable pub readOf : ℕ → ℕ → List ℕ → ℕ → Told (Line × ℕ)
