@@ -34,7 +34,7 @@ module _ (t buf : List ℕ) where
 -- ---- a line
 
 module _ (jacks : ℕ) (l : Line) (buf : List ℕ) where
-  -- an order out of shape is refused, whatever the room
+  -- a line that does not fit is refused, whatever the room
   pub write-unfit : lineFits jacks l ≡ false → (refused 17 nowhere ≡ writeOf jacks l buf) × (buf ≡ writeBytes jacks l buf)
   unfolding writeOf writeBytes fitting
   write-unfit e = rw e (refl, refl)

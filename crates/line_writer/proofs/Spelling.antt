@@ -19,8 +19,8 @@ use Rattle.words.specs.declared.Jack.{Jack}
 use Rattle.words.specs.declared.Order.{Order}
 use Rattle.words.specs.declared.Order.the-variants.{Swap, Turn}
 use Rattle.words.specs.declared.Line.{Line}
-use Rattle.words.specs.declared.Line.the-variants.{Movement, Mark, End}
-use Rattle.line_format.specs.Format.{swapping, turning, marking, ending, key, listed, keyText, unended, lineText}
+use Rattle.words.specs.declared.Line.the-variants.{Movement, Seat, Mark, End}
+use Rattle.line_format.specs.Format.{swapping, turning, seating, marking, ending, key, listed, keyText, unended, lineText}
 use Rattle.words.specs.Shape.{lineFits}
 use Rattle.line_format.specs.Calls.{roomOf, over, roomBytes, writeOf, writeBytes}
 use Rattle.line_format.proofs.Written.{write-fit}
@@ -101,6 +101,11 @@ pub spells-turn : (s m r : Spelled) (o : Order) (a b c : Jack) → o ≡ Turn a 
     → Grown s (comma ∷ digitsOf (b .0)) m → Grown m (comma ∷ digitsOf (c .0)) r → Spells r (unended (Movement o))
 unfolding unended keyText
 spells-turn s m r o a b c e h k g = rw e (spells-three m r (key turning) (a .0) (b .0) (c .0) (spells-two s m (key turning) (a .0) (b .0) h k) g)
+
+-- a seat
+pub spells-seat : (s : Spelled) (l : Line) (j : Jack) → l ≡ Seat j → Spells s (key seating ++ digitsOf (j .0)) → Spells s (unended l)
+unfolding unended keyText listed
+spells-seat s l j e h = rw e h
 
 -- a mark
 pub spells-mark : (s r : Spelled) (l : Line) (m n : ℕ) → l ≡ Mark m n → Spells s (key marking ++ digitsOf m) → Grown s (comma ∷ digitsOf n) r

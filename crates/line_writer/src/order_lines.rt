@@ -7,6 +7,7 @@ use words::Reason;
 use words::limits::MOST_PORTS;
 use words::refusals::nowhere;
 use words::shapes::in_shape;
+use words::shapes::one_of;
 ghost use mathlib.Core.Path.{_≡_};
 ghost use mathlib.Core.List.{_∷_, _++_};
 ghost use Prim.Native.Nat.{_+_, _≤_};
@@ -108,17 +109,19 @@ fn line_text(line: Line) -> Spelled
 {
     match line {
         Line::Movement(o) => order_text(o),
+        Line::Seat(jack) => begun(b"seat=", jack.0 as u64),
         Line::Mark(number, rank) => and_next(begun(b"mark=", number), rank),
         Line::End(marks) => begun(b"end=", marks),
     }
 }
 
-// Whether a line can be written: an order in shape on the most jacks, each mark and each end.
+// Whether a line can be written: an order in shape on the most jacks, a seat at one of them, each mark and each end.
 fn fits(line: Line) -> bool
     ensures { λ r. ⌜ r ≡ lineFits mostPorts line ⌝ }
 {
     match line {
         Line::Movement(o) => in_shape(MOST_PORTS, o),
+        Line::Seat(jack) => one_of(MOST_PORTS, jack.0),
         Line::Mark(_, _) => true,
         Line::End(_) => true,
     }

@@ -1,4 +1,4 @@
--- `line_writer::order_lines::write_line` refuses an order out of shape, and else writes the text of the line.
+-- `line_writer::order_lines::write_line` refuses a line that does not fit, and else writes the text of the line.
 use mathlib.Core.Path.{_≡_, sym, _∙_}
 use mathlib.Core.Bool.{true}
 use native.Mathlib.Omega.{arith}
