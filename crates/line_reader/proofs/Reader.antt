@@ -17,14 +17,14 @@ use Rattle.words.specs.declared.Line.{Line}
 use Rattle.text_numbers.specs.Decimal.{numberUpTo}
 use Rattle.text_keys.specs.Parts.{newline, comma, firstOf, begins, afterKey}
 use Rattle.text_keys.proofs.Cuts.{first-inside, to-the-end}
-use Rattle.line_format.specs.Format.{Kind, swapping, turning, marking, ending, key, commas, lineOf}
+use Rattle.line_format.specs.Format.{Kind, swapping, turning, seating, marking, ending, key, commas, lineOf}
 use Rattle.line_format.specs.Reading.{numberBefore, numbersIn, fitting, numbersTold, keyed, lineIn, readOf}
 use Rattle.text_numbers.specs.Answers.{readIs}
 use Rattle.text_numbers.specs.declared.Read.{Read as Found}
 use Rattle.text_numbers.specs.declared.Read.the-variants.{Number, Bad}
 use Rattle.line_reader.specs.Answers.{listedIs, aloneOf, precededBy, kindIs, keyedTold}
 use Rattle.line_reader.specs.declared.order_lines.Kind.{Kind as Kind-Read}
-use Rattle.line_reader.specs.declared.order_lines.Kind.the-variants.{Swap, Turn, Mark, End}
+use Rattle.line_reader.specs.declared.order_lines.Kind.the-variants.{Swap, Turn, Seat, Mark, End}
 use Rattle.line_reader.specs.declared.order_lines.Keyed.the-variants.{Of}
 use Rattle.line_reader.specs.declared.order_lines.Listed.{Listed}
 use Rattle.line_reader.specs.declared.order_lines.Listed.the-variants.{Are, Bad as Listed-Bad}
@@ -104,6 +104,7 @@ module _ (jacks : ℕ) (l : Line) where
 pub commas-few : (k : Kind-Read) → commas (kindIs k) ≤ 2
 commas-few Swap = omega arith
 commas-few Turn = omega arith
+commas-few Seat = omega arith
 commas-few Mark = omega arith
 commas-few End = omega arith
 
@@ -153,18 +154,27 @@ module _ (most jacks : ℕ) where
       line-turn e = keyed-here turning _ e ∙ keyed-other swapping _ no-swap
 
       module _ (no-turn : false ≡ begins (key turning) t) where
-        pub line-mark : true ≡ begins (key marking) t → numbersTold most jacks marking (drop 5 t) ≡ lineIn most jacks t
+        -- what the keys after them decide
+        keyed-later : (other : Told Line) → other ≡ keyed most jacks swapping (afterKey (key swapping) t) (keyed most jacks turning (afterKey (key turning) t) other)
+        keyed-later other = keyed-other turning other no-turn ∙ keyed-other swapping _ no-swap
+
+        pub line-seat : true ≡ begins (key seating) t → numbersTold most jacks seating (drop 5 t) ≡ lineIn most jacks t
         unfolding lineIn
-        line-mark e = keyed-here marking _ e ∙ keyed-other turning _ no-turn ∙ keyed-other swapping _ no-swap
+        line-seat e = keyed-here seating _ e ∙ keyed-later _
 
-        module _ (no-mark : false ≡ begins (key marking) t) where
-          pub line-end : true ≡ begins (key ending) t → numbersTold most jacks ending (drop 4 t) ≡ lineIn most jacks t
+        module _ (no-seat : false ≡ begins (key seating) t) where
+          pub line-mark : true ≡ begins (key marking) t → numbersTold most jacks marking (drop 5 t) ≡ lineIn most jacks t
           unfolding lineIn
-          line-end e = keyed-here ending _ e ∙ keyed-other marking _ no-mark ∙ keyed-other turning _ no-turn ∙ keyed-other swapping _ no-swap
+          line-mark e = keyed-here marking _ e ∙ keyed-other seating _ no-seat ∙ keyed-later _
 
-          pub line-none : false ≡ begins (key ending) t → refused 7 nowhere ≡ lineIn most jacks t
-          unfolding lineIn
-          line-none e = keyed-other ending _ e ∙ keyed-other marking _ no-mark ∙ keyed-other turning _ no-turn ∙ keyed-other swapping _ no-swap
+          module _ (no-mark : false ≡ begins (key marking) t) where
+            pub line-end : true ≡ begins (key ending) t → numbersTold most jacks ending (drop 4 t) ≡ lineIn most jacks t
+            unfolding lineIn
+            line-end e = keyed-here ending _ e ∙ keyed-other marking _ no-mark ∙ keyed-other seating _ no-seat ∙ keyed-later _
+
+            pub line-none : false ≡ begins (key ending) t → refused 7 nowhere ≡ lineIn most jacks t
+            unfolding lineIn
+            line-none e = keyed-other ending _ e ∙ keyed-other marking _ no-mark ∙ keyed-other seating _ no-seat ∙ keyed-later _
 
   -- ---- the newline
 

@@ -8,7 +8,7 @@ use lib.ListN.{length, drop}
 use Rattle.words.specs.Told.{Told, accepted, refused, nowhere}
 use Rattle.words.specs.Meaning.{refusalOf}
 use Rattle.words.specs.declared.Line.{Line}
-use Rattle.line_format.specs.Format.{Kind, swapping, turning, marking, ending, commas, Numbers, lineOf}
+use Rattle.line_format.specs.Format.{Kind, swapping, turning, seating, marking, ending, commas, Numbers, lineOf}
 use Rattle.line_format.specs.Reading.{numberBefore, numbersTold, lineIn}
 use Rattle.line_reader.specs.declared.answers.ReadLine.{ReadLine}
 use Rattle.line_reader.specs.declared.answers.ReadLine.the-variants.{Read, Refused as Read-Refused}
@@ -20,7 +20,7 @@ use Rattle.line_reader.specs.declared.order_lines.Numbers.{Numbers as Th
 use Rattle.line_reader.specs.declared.order_lines.Listed.{Listed}
 use Rattle.line_reader.specs.declared.order_lines.Listed.the-variants.{Are, Bad as Listed-Bad}
 use Rattle.line_reader.specs.declared.order_lines.Kind.{Kind as Kind-Read}
-use Rattle.line_reader.specs.declared.order_lines.Kind.the-variants.{Swap, Turn, Mark, End}
+use Rattle.line_reader.specs.declared.order_lines.Kind.the-variants.{Swap, Turn, Seat, Mark, End}
 use Rattle.line_reader.specs.declared.order_lines.Keyed.{Keyed}
 use Rattle.line_reader.specs.declared.order_lines.Keyed.the-variants.{Of, Bad as Keyed-Bad}
 use Rattle.text_numbers.specs.declared.Read.{Read as Found}
@@ -80,6 +80,7 @@ precededBy n Listed-Bad = Listed-Bad
 abbrev pub kindIs : Kind-Read → Kind
 kindIs Swap = swapping
 kindIs Turn = turning
+kindIs Seat = seating
 kindIs Mark = marking
 kindIs End = ending
 

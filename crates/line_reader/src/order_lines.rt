@@ -18,7 +18,8 @@ ghost use Prim.Native.Nat.{_≤_};
 ghost use lib.Dec.{leb};
 ghost use lib.ListN.{drop};
 ghost use Rattle.words.specs.Told.{accepted, then};
-ghost use Rattle.words.specs.declared.Line.the-variants.{Movement};
+ghost use Rattle.words.specs.Meaning.{jackAt};
+ghost use Rattle.words.specs.declared.Line.the-variants.{Movement, Seat};
 ghost use Rattle.listing.specs.Limits.{mostPorts, largest64};
 ghost use Rattle.text_keys.specs.Parts.{newline, firstOf};
 ghost use Rattle.text_keys.specs.Answers.{foundIs};
@@ -41,6 +42,7 @@ pub enum Judged {
 pub enum Kind {
     Swap,
     Turn,
+    Seat,
     Mark,
     End,
 }
@@ -135,6 +137,19 @@ fn fitted(o: Order) -> Judged
     Judged::BadShape
 }
 
+// A seat at a jack of the device: the number is compared as it is.
+fn seated(jack: u64) -> Judged
+    ensures { λ r. ⌜ judgedTold r ≡ fitting mostPorts (Seat (jackAt jack)) ⌝ }
+{
+    if jack < 1 {
+        return Judged::BadShape;
+    }
+    if MOST_JACKS < jack {
+        return Judged::BadShape;
+    }
+    Judged::Good(Line::Seat(Jack(jack as u8)))
+}
+
 // Whether three numbers are jacks of the device, or 0: they are compared as they are.
 fn all_jacks(a: u64, b: u64, c: u64) -> bool
     ensures { λ r. ⌜ r ≡ (leb a mostPorts && leb b mostPorts && leb c mostPorts) ⌝ }
@@ -169,6 +184,7 @@ fn line_of(kind: Kind, x: Numbers) -> Judged
             }
             Judged::BadShape
         }
+        Kind::Seat => seated(x.first),
         Kind::Mark => Judged::Good(Line::Mark(x.first, x.second)),
         Kind::End => Judged::Good(Line::End(x.first)),
     }
@@ -181,6 +197,7 @@ fn commas_of(kind: Kind) -> u8
     match kind {
         Kind::Swap => 1,
         Kind::Turn => 2,
+        Kind::Seat => 0,
         Kind::Mark => 1,
         Kind::End => 0,
     }
@@ -195,6 +212,9 @@ fn kind_of(t: &[u8]) -> Keyed
     }
     if has_key(t, b"turn=") {
         return Keyed::Of(Kind::Turn, 5);
+    }
+    if has_key(t, b"seat=") {
+        return Keyed::Of(Kind::Seat, 5);
     }
     if has_key(t, b"mark=") {
         return Keyed::Of(Kind::Mark, 5);

@@ -1,4 +1,4 @@
--- `line_reader::order_lines::line_of`: no order with a jack above 20 is in shape, and any other number is a jack; a mark and an end take any numbers.
+-- `line_reader::order_lines::line_of`: no order with a jack above 20 is in shape, and any other number is a jack; a seat is judged by its jack; a mark and an end take any numbers.
 use mathlib.Core.Path.{_≡_, sym, ap, _∙_}
 use Prim.Native.Nat.{_≤_}
 use native.Mathlib.Omega.{arith}
@@ -64,12 +64,15 @@ returns-4 c =
     ∙ of-kind x (k .enum-told2 .given .1)
 
 returns-5 : tie.Need-returns-5
-unfolding fitting
-returns-5 c = of-kind (c .before .before .args .x) (c .enum-told3 .given .1)
+returns-5 c = let k = c .before in c .seated .ensures ∙ of-kind (k .before .before .args .x) (k .enum-told3 .given .1)
 
 returns-6 : tie.Need-returns-6
 unfolding fitting
 returns-6 c = of-kind (c .before .before .args .x) (c .enum-told4 .given .1)
+
+returns-7 : tie.Need-returns-7
+unfolding fitting
+returns-7 c = of-kind (c .before .before .args .x) (c .enum-told5 .given .1)
 
 pub line-of-spec : {M : Type 1} → statement M
 line-of-spec =
@@ -89,8 +92,11 @@ line-of-spec =
     (λ c κs. search needs)
     returns-2
     (λ c. search needs)
+    (λ c κs. search needs)
+    (λ c. search needs)
     (λ c. search needs)
     returns-3
     returns-4
     returns-5
-    returns-6)
+    returns-6
+    returns-7)
