@@ -1,4 +1,4 @@
--- What a line leaves of the panel: mark and end the panel itself, a swap and a turn what the paper says of them, and each line that fits a panel.
+-- What a line leaves of the panel: seat, mark and end the panel itself, a swap and a turn what the paper says of them, and each line that fits a panel.
 -- Assumes nothing.
 use mathlib.Core.Path.{_≡_, refl, ap, _∙_}
 use mathlib.Core.Bool.{true}
@@ -6,29 +6,34 @@ use mathlib.Core.List.{List}
 use Prim.Native.Nat.{ℕ}
 use native.Mathlib.Omega.{arith}
 use lib.ListN.{length}
+use Rattle.listing.specs.Numbers.{Among}
 use Rattle.listing.specs.Pattern.{entry}
 use Rattle.listing.specs.Orders.{Order, swap, turn, carry, InShape}
 use Rattle.listing.proofs.Panels.{length-carry, entry-carry}
 use Rattle.listing.proofs.Sources.{swap-first, swap-second, turn-first, turn-second, turn-third, carry-permutation}
 use Rattle.words.specs.Told.{Told, accepted, refused, leaves}
 use Rattle.words.specs.Meaning.{orderOf}
-use Rattle.words.proofs.Shape.{shaped-shape}
+use Rattle.words.proofs.Shape.{one-of, among-one, shaped-shape}
 use Rattle.words.specs.declared.Jack.{Jack}
 use Rattle.words.specs.declared.Order.the-variants.{Swap, Turn}
 use Rattle.words.specs.declared.Line.{Line}
-use Rattle.words.specs.declared.Line.the-variants.{Movement, Mark, End}
+use Rattle.words.specs.declared.Line.the-variants.{Movement, Seat, Mark, End}
 use Rattle.pattern_check.proofs.Accepted.{Panel}
 use Rattle.panel.specs.Calls.{afterLine, carryOf, carryBytes}
-use Rattle.words.specs.Shape.{lineFits}
-use Rattle.panel.proofs.Joined.{told-fits}
+use Rattle.words.specs.Shape.{oneOf, lineFits}
+use Rattle.panel.proofs.Joined.{told-fits, fits-told}
 
--- ---- mark and end
+-- ---- seat, mark and end
 
 unmoved : (t : Told (Unit {0})) (p : List ℕ) → leaves t p p ≡ p
 unmoved (accepted a) p = refl
 unmoved (refused k s) p = refl
 
--- a mark leaves each panel as it is, and so does the end
+-- a seat leaves each panel as it is, and so do a mark and the end
+pub seat-left : (most : ℕ) (j : Jack) (p : List ℕ) → carryBytes most (Seat j) p ≡ p
+unfolding carryBytes
+seat-left most j p = unmoved (carryOf most (Seat j) p) p
+
 pub mark-left : (most m r : ℕ) (p : List ℕ) → carryBytes most (Mark m r) p ≡ p
 unfolding carryBytes
 mark-left most m r p = unmoved (carryOf most (Mark m r) p) p
@@ -37,12 +42,22 @@ pub end-left : (most m : ℕ) (p : List ℕ) → carryBytes most (End m) p ≡ p
 unfolding carryBytes
 end-left most m p = unmoved (carryOf most (End m) p) p
 
--- ---- orders
+-- ---- what is accepted
 
 -- an accepted line found a panel that it fits, and leaves the panel after it
 left : (most : ℕ) (l : Line) (p : List ℕ) → accepted tt ≡ carryOf most l p → Panel most p × (lineFits (length p) l ≡ true) × (carryBytes most l p ≡ afterLine l p)
 unfolding carryOf carryBytes
 left most l p e = let t = told-fits most p (lineFits (length p) l) tt tt e in (t .0, t .1, rw (← e))
+
+-- a seat is accepted at the jacks of the panel, and only there
+pub seat-told : (most : ℕ) (j : Jack) (p : List ℕ) → accepted tt ≡ carryOf most (Seat j) p → Panel most p × Among (length p) (j .0)
+seat-told most j p e = let t = left most (Seat j) p e in (t .0, one-of (length p) (j .0) (t .1))
+
+pub told-seat : (most : ℕ) (j : Jack) (p : List ℕ) → Panel most p → Among (length p) (j .0) → accepted tt ≡ carryOf most (Seat j) p
+unfolding carryOf
+told-seat most j p P h = fits-told most p (oneOf (length p) (j .0)) tt P (among-one (length p) (j .0) h)
+
+-- ---- orders
 
 -- after a swap a,b jack a has what b held, and b what a held
 pub swapped : (most : ℕ) (a b : Jack) (p : List ℕ) → accepted tt ≡ carryOf most (Movement (Swap a b)) p
@@ -84,6 +99,7 @@ order-panel most o p P s =
 -- and so is the panel after each line that fits
 after-panel : (most : ℕ) (l : Line) (p : List ℕ) → Panel most p → lineFits (length p) l ≡ true → Panel most (afterLine l p)
 after-panel most (Movement o) p P t = order-panel most (orderOf o) p P (shaped-shape (length p) (orderOf o) t)
+after-panel most (Seat j) p P t = P
 after-panel most (Mark m r) p P t = P
 after-panel most (End m) p P t = P
 

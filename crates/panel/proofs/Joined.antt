@@ -42,7 +42,7 @@ module _ {A : Type 0} (most : ℕ) (p : List ℕ) (fits : Bool) where
   told-fits a b e = let t = parts (checkAs false most p) fits a b e in (accepted-panel most p (t .0), t .1, t .2)
 
   -- and on each of these it is accepted, with a port at its own jack or without
-  fits-told : (a : A) → Panel most p → fits ≡ true → accepted a ≡ onPanel most p fits a
+  pub fits-told : (a : A) → Panel most p → fits ≡ true → accepted a ≡ onPanel most p fits a
   fits-told a P t = fitting most p fits a (panel-accepted most p P) t
 
 -- ---- a panel is asked for one of its numbers

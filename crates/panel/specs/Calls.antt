@@ -11,7 +11,7 @@ use Rattle.words.specs.Told.{Told, accepted, refused, nowhere, then, leaves}
 use Rattle.words.specs.Meaning.{orderOf}
 use Rattle.words.specs.Shape.{oneOf, lineFits}
 use Rattle.words.specs.declared.Line.{Line}
-use Rattle.words.specs.declared.Line.the-variants.{Movement, Mark, End}
+use Rattle.words.specs.declared.Line.the-variants.{Movement, Seat, Mark, End}
 use Rattle.pattern_check.specs.Faults.{seek}
 use Rattle.pattern_check.specs.Calls.{checkAs}
 
@@ -31,9 +31,10 @@ portOf most p j = onPanel most p (oneOf (length p) j) (entry p j)
 unfoldable pub jackOf : ℕ → List ℕ → ℕ → Told ℕ
 jackOf most p v = onPanel most p (oneOf (length p) v) (seek p v 1 (length p))
 
--- the panel after a line: an order does what the list says, mark and end leave it as it is
+-- the panel after a line: an order does what the list says; a seat 'is no movement and leaves the panel's pattern as it is' (request 4), and so do mark and end
 abbrev pub afterLine : Line → List ℕ → List ℕ
 afterLine (Movement o) p = list.carry (orderOf o) p
+afterLine (Seat j) p = p
 afterLine (Mark m r) p = p
 afterLine (End m) p = p
 
