@@ -17,12 +17,15 @@ use Rattle.listing.specs.Limits.{mostPorts, mostLegs, largest64}
 use Rattle.listing.proofs.Ranks.{at-derangement}
 use Rattle.promise.specs.Tests.{same}
 use Rattle.promise.specs.Plan.{legAt, stepped, marks}
-use Rattle.promise.specs.Campaign.{here, rankOf, numberOf, wanted}
+use Rattle.promise.specs.Campaign.{toCome, found, here, rankOf, numberOf, wanted, todo}
 use Rattle.promise.specs.Derangements.{derangements}
-use Rattle.promise.proofs.Tests.{Tells, tells-and, tells-eqb}
+use Rattle.promise.proofs.Tests.{Tells, tells-and, tells-eqb, tells-same}
+use Rattle.promise.proofs.Ways.{way-over}
+use Rattle.promise.proofs.Derangements.{lawful-on}
 use Rattle.pattern_carry.specs.Panels.{wrongFrom}
 use Rattle.words.specs.declared.Leg.{Leg}
 use Rattle.campaign_way.proofs.Differ.{same-wrong}
+use Rattle.campaign_way.proofs.Walks.{walk-listed}
 use Rattle.plan_rules.specs.Planned.{LegFits, device}
 use Rattle.plan_rules.proofs.Held.{each-fits}
 use Rattle.plan_rules.specs.Rules.{legsOf, Beyond, Ruled, planRuled}
@@ -143,6 +146,15 @@ module _ (s : State) (z : Sized s) (I : InPlan s) where
       ap (λ x. eqb x 0) ew
       ∙ sym (same-wrong n (take n (s .panel)) t (length-take-le n (s .panel) (omega (arith, few-ports, z .panel))) long)
       ∙ ap (λ q. same (take n (s .panel)) q) (et ∙ ap (at n) rank)
+
+  -- where the panel has it, nothing is to come before the mark
+  pub pattern-over : same (momentOf s .panel) (wanted (settingOf s) (momentOf s)) ≡ true → found (todo (settingOf s) (momentOf s)) ≡ true
+  unfolding derangements
+  pattern-over e =
+      let n = s .plan .ports in
+      let l = here (settingOf s) (momentOf s) in
+      ap found (ap (toCome (derangements n) l (s .step)) (tells-same (momentOf s .panel) (wanted (settingOf s) (momentOf s)) .0 e)
+      ∙ way-over (derangements n) (lawful-on n (few-ports .0)) l (s .step) (λ i h. walk-listed n (few-ports .0) (l .start) (l .back) i start-below))
 
   -- the same start, of the leg l in hand
   pub start-listed : (l : Leg) → IsLeg s l → l .start < count (s .plan .ports)

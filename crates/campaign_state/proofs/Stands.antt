@@ -1,37 +1,63 @@
 -- Where a state stands, test by test: the first test that fails makes it unfit, and where all pass the panel decides.
 -- Assumes nothing.
-use mathlib.Core.Path.{_≡_, refl}
-use mathlib.Core.Bool.{Bool, true, false, not, cond, _&&_, _||_}
+use mathlib.Core.Path.{_≡_, refl, sym, ap, _∙_}
+use mathlib.Core.Bool.{Bool, true, false, not, cond, _&&_, _||_, and-eq-true-iff, true≢false}
 use mathlib.Core.List.{List, [], _∷_}
 use mathlib.Core.Option.{Option, none, some}
-use Prim.Native.Nat.{_≤_, _<_}
+use Prim.Native.Nat.{ℕ, _≤_, _<_}
+use lib.Dec.{leb, ltb}
 use lib.ListN.{length}
 use borrow.Author.Tests.{lt-ltb, le-ltb, le-leb, lt-leb}
 use Rattle.listing.specs.Orders.{Order}
 use Rattle.promise.specs.Tests.{implies, same}
 use Rattle.promise.specs.Campaign as model
 use Rattle.promise.specs.Campaign.{here, wanted, todo, found}
+use Rattle.promise.specs.Derangements.{derangements}
+use Rattle.promise.proofs.Tests.{clash, fails, tells-true, tells-implies}
 use Rattle.campaign_way.specs.Coming.{nextOf}
 use Rattle.campaign_state.specs.State.{settingOf, momentOf}
-use Rattle.campaign_state.specs.Fitness.{placesFit, fit, countsRight, endRight}
-use Rattle.campaign_state.specs.Standing.{Stand, unfit, atMark, atEnd, wayStand, panelStand, standOf}
+use Rattle.campaign_state.specs.Fitness.{placesFit, fit, countsRight, endRight, seatRight}
+use Rattle.campaign_state.specs.Standing.{Stand, unfit, atMark, atEnd, seat, wayStand, panelStand, standOf}
 use Rattle.campaign_state.specs.declared.State.{State}
 
--- where all tests but those of the panel pass, the panel decides: whether a mark stands (st), whether the end is shown (en), whether the panel has the
--- mark's pattern (sm), what is to come (t)
-decided : Bool → Bool → Bool → Option (List Order) → Stand
-decided st en sm t = cond st (cond sm atMark unfit) (cond en (cond sm atEnd unfit) (wayStand (nextOf t)))
+-- where all tests but those of the panel pass, the panel decides: whether a mark stands (st), whether the end is shown (en), whether a jack is to be seated (sn)
+-- and which (j), whether the panel has the mark's pattern (sm), what is to come (t)
+decided : Bool → Bool → Bool → ℕ → Bool → Option (List Order) → Stand
+decided st en sn j sm t = cond st (cond sm atMark unfit) (cond en (cond sm atEnd unfit) (cond sn (cond sm (seat j) unfit) (wayStand (nextOf t))))
 
-panel-decides : (st en sm : Bool) (t : Option (List Order))
-    → decided st en sm t ≡ cond (implies (st || en) sm && implies (not (st || en)) (found t)) (decided st en sm t) unfit
-unfolding decided implies
-panel-decides true en true t = refl
-panel-decides true en false t = refl
-panel-decides false true true t = refl
-panel-decides false true false t = refl
-panel-decides false false sm none = refl
-panel-decides false false sm (some []) = refl
-panel-decides false false sm (some (o ∷ os)) = refl
+-- what the tests of the panel and of the seat ask (le: the jack to seat is of the panel)
+asked : Bool → Bool → Bool → Bool → Bool → Option (List Order) → Bool
+asked st en sn le sm t = implies (st || en) sm && implies (not (st || en)) (found t) && le && implies sn (not st && not en && sm)
+
+-- at the mark's pattern nothing is to come, so it is found
+panel-decides : (st en sn : Bool) (j : ℕ) (le sm : Bool) (t : Option (List Order)) → (le && implies sn (not st && not en)) ≡ true → (sm ≡ true → found t ≡ true)
+    → decided st en sn j sm t ≡ cond (asked st en sn le sm t) (decided st en sn j sm t) unfit
+unfolding decided asked implies
+panel-decides st en sn j false sm t h w = clash h refl
+panel-decides true en true j true sm t h w = clash h refl
+panel-decides true en false j true true t h w = refl
+panel-decides true en false j true false t h w = refl
+panel-decides false true true j true sm t h w = clash h refl
+panel-decides false true false j true true t h w = refl
+panel-decides false true false j true false t h w = refl
+panel-decides false false true j true true t h w = rw (w refl) refl
+panel-decides false false true j true false none h w = refl
+panel-decides false false true j true false (some os) h w = refl
+panel-decides false false false j true sm none h w = refl
+panel-decides false false false j true sm (some []) h w = refl
+panel-decides false false false j true sm (some (o ∷ os)) h w = refl
+
+-- a seat that may not be is unfit
+seat-wrong : (st en sn le sm : Bool) (t : Option (List Order)) → (le && implies sn (not st && not en)) ≡ false → asked st en sn le sm t ≡ false
+unfolding asked
+seat-wrong st en sn le sm t h = fails (asked st en sn le sm t) (tells-true (asked st en sn le sm t)) (λ e.
+    let all = and-eq-true-iff (implies (st || en) sm && implies (not (st || en)) (found t) && le) (implies sn (not st && not en && sm)) .0 e in
+    let seat = and-eq-true-iff (implies (st || en) sm && implies (not (st || en)) (found t)) le .0 (all .0) in
+    true≢false (sym (and-eq-true-iff le (implies sn (not st && not en)) .1 (seat .1, without sn (not st && not en) sm (all .1))) ∙ h))
+  where
+    without : (a b c : Bool) → implies a (b && c) ≡ true → implies a b ≡ true
+    without a b c e = tells-implies a b (tells-true a) (tells-true b) .1
+        (λ x. and-eq-true-iff b c .0 (tells-implies a (b && c) (tells-true a) (tells-true (b && c)) .0 e x) .0)
 
 -- ---- by the panel
 
@@ -52,9 +78,17 @@ module _ (C : model.Setting) (m : model.State) where
   unfolding panelStand
   end-panel-wrong e g f = rw (e, g, f) refl
 
-  pub way-panel : (o : Option (Option Order)) → m .standing ≡ false → m .ended ≡ false → o ≡ nextOf (todo C m) → wayStand o ≡ panelStand C m
+  pub seat-panel-right : m .standing ≡ false → m .ended ≡ false → 0 < m .toSeat → same (m .panel) (wanted C m) ≡ true → seat (m .toSeat) ≡ panelStand C m
   unfolding panelStand
-  way-panel o e g f = rw (e, g, ← f) refl
+  seat-panel-right e g h f = rw (e, g, lt-ltb 0 (m .toSeat) h, f) refl
+
+  pub seat-panel-wrong : m .standing ≡ false → m .ended ≡ false → 0 < m .toSeat → same (m .panel) (wanted C m) ≡ false → unfit ≡ panelStand C m
+  unfolding panelStand
+  seat-panel-wrong e g h f = rw (e, g, lt-ltb 0 (m .toSeat) h, f) refl
+
+  pub way-panel : (o : Option (Option Order)) → m .standing ≡ false → m .ended ≡ false → m .toSeat ≤ 0 → o ≡ nextOf (todo C m) → wayStand o ≡ panelStand C m
+  unfolding panelStand
+  way-panel o e g h f = rw (e, g, le-ltb 0 (m .toSeat) h, ← f) refl
 
 -- ---- test by test
 
@@ -95,9 +129,22 @@ module _ (s : State) where
                 (p, lt-ltb (s .leg) (length (settingOf s .legs)) a, le-leb (s .step) (here (settingOf s) (momentOf s) .run) b, le-leb (s .errors) 65535 c, d, h)
                 refl
 
-            pub stand-panel : endRight s ≡ true → panelStand (settingOf s) (momentOf s) ≡ standOf s
-            unfolding standOf fit model.fit panelStand decided
-            stand-panel h =
-                rw
-                (p, lt-ltb (s .leg) (length (settingOf s .legs)) a, le-leb (s .step) (here (settingOf s) (momentOf s) .run) b, le-leb (s .errors) 65535 c, d, h)
-                (panel-decides (s .standing) (s .ended) (same (momentOf s .panel) (wanted (settingOf s) (momentOf s))) (todo (settingOf s) (momentOf s)))
+            module _ (h : endRight s ≡ true) where
+              pub unfit-seat : seatRight s ≡ false → unfit ≡ standOf s
+              unfolding standOf fit model.fit asked derangements
+              unfit-seat k =
+                  rw
+                  (p, lt-ltb (s .leg) (length (settingOf s .legs)) a, le-leb (s .step) (here (settingOf s) (momentOf s) .run) b, le-leb (s .errors) 65535 c, d, h)
+                  (sym (ap (λ x. cond x (panelStand (settingOf s) (momentOf s)) unfit)
+                  (seat-wrong (s .standing) (s .ended) (ltb 0 (s .seat)) (leb (s .seat) (s .plan .ports))
+                  (same (momentOf s .panel) (wanted (settingOf s) (momentOf s))) (todo (settingOf s) (momentOf s)) k)))
+
+              pub stand-panel : seatRight s ≡ true
+                  → (same (momentOf s .panel) (wanted (settingOf s) (momentOf s)) ≡ true → found (todo (settingOf s) (momentOf s)) ≡ true)
+                  → panelStand (settingOf s) (momentOf s) ≡ standOf s
+              unfolding standOf fit model.fit panelStand decided asked derangements
+              stand-panel k w =
+                  rw
+                  (p, lt-ltb (s .leg) (length (settingOf s .legs)) a, le-leb (s .step) (here (settingOf s) (momentOf s) .run) b, le-leb (s .errors) 65535 c, d, h)
+                  (panel-decides (s .standing) (s .ended) (ltb 0 (s .seat)) (s .seat) (leb (s .seat) (s .plan .ports))
+                  (same (momentOf s .panel) (wanted (settingOf s) (momentOf s))) (todo (settingOf s) (momentOf s)) k w)

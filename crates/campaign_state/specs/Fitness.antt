@@ -5,7 +5,7 @@ use Prim.Native.Nat.{ℕ, zero, suc, _+_, _≤_, _<_}
 use mathlib.Core.Path.{_≡_}
 use mathlib.Core.Bool.{Bool, true, not, _&&_}
 use mathlib.Core.List.{List, [], _∷_}
-use lib.Dec.{eqb}
+use lib.Dec.{eqb, leb, ltb}
 use lib.ListN.{length}
 use Rattle.promise.specs.Tests.{implies}
 use Rattle.promise.specs.Campaign as model
@@ -24,7 +24,7 @@ pub record Fit (s : State) : Type 0 where
   -- 'and, on the panel, beyond the ports'
   pub unused : Beyond (s .plan .ports) 0 (s .panel)
   -- 'leg not below legs, step above |run|, panel no permutation or not as said below, end shown falsely, covered plus open unequal to the number of the
-  -- standing or next mark, or errors above 65,535'
+  -- standing or next mark, or errors above 65,535'; and of request 4 'a seat number above n', or seating where it may not be
   pub moment : promise.Fit (settingOf s) (momentOf s)
 
 -- ---- the test
@@ -62,3 +62,7 @@ countsRight s = eqb (s .covered + s .opened) (closedMarks (settingOf s) (momentO
 abbrev pub endRight : State → Bool
 endRight s =
     implies (s .ended) (not (s .standing) && eqb (suc (s .leg)) (length (legsOf (s .plan))) && eqb (s .step) (here (settingOf s) (momentOf s) .run))
+
+-- 'a seat number above n, or .. seating while a mark stands, at the end' (request 4)
+abbrev pub seatRight : State → Bool
+seatRight s = leb (s .seat) (s .plan .ports) && implies (ltb 0 (s .seat)) (not (s .standing) && not (s .ended))

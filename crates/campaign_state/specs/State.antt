@@ -4,11 +4,11 @@ use Prim.Native.Nat.{ℕ}
 use mathlib.Core.List.{List, [], _++_}
 use mathlib.Core.Option.{Option, none, some}
 use lib.ListN.{length, take, drop}
-use Rattle.words.specs.Meaning.{orderFrom}
+use Rattle.words.specs.Meaning.{jackAt, orderFrom}
 use Rattle.words.specs.declared.Line.{Line}
-use Rattle.words.specs.declared.Line.the-variants.{Movement, Mark, End}
+use Rattle.words.specs.declared.Line.the-variants.{Movement, Seat, Mark, End}
 use Rattle.promise.specs.Campaign as model
-use Rattle.promise.specs.Campaign.{movement, mark, theEnd, taken, refusal}
+use Rattle.promise.specs.Campaign.{movement, seat, mark, theEnd, taken, refusal}
 use Rattle.promise.specs.Derangements.{onPorts}
 use Rattle.line_format.specs.Format.{lineText}
 use Rattle.plan_rules.specs.Rules.{legsOf}
@@ -17,6 +17,7 @@ use Rattle.campaign_state.specs.declared.State.{State}
 -- the line of an answer: a report that is taken and a refusal have none
 abbrev pub answerLine : model.Answer → Option Line
 answerLine (movement o) = some (Movement (orderFrom o))
+answerLine (seat j) = some (Seat (jackAt j))
 answerLine (mark k r) = some (Mark k r)
 answerLine (theEnd k) = some (End k)
 answerLine taken = none
@@ -50,6 +51,7 @@ momentOf s = record {
   errors = s .errors;
   standing = s .standing;
   ended = s .ended;
+  toSeat = s .seat;
 }
 
 -- a state at another moment: the plan stays, and so do the places of the panel beyond the ports
@@ -64,4 +66,5 @@ atMoment m s = record {
   errors = m .errors;
   standing = m .standing;
   ended = m .ended;
+  seat = m .toSeat;
 }

@@ -8,6 +8,7 @@ use pattern_carry::panels::first_wrong;
 use pattern_course::unranking::put_pattern;
 use plan_rules::leg_at;
 use plan_rules::plan_ruled;
+use words::Jack;
 use words::Leg;
 use words::Order;
 use words::limits::LONGEST;
@@ -17,14 +18,15 @@ ghost use mathlib.Core.Bool.{true};
 ghost use Rattle.promise.specs.Tests.{same};
 ghost use Rattle.promise.specs.Campaign.{wanted};
 ghost use Rattle.campaign_state.specs.State.{settingOf, momentOf};
-ghost use Rattle.campaign_state.specs.Fitness.{emptyFrom, placesFit, InPlan, IsLeg, countsRight, endRight};
+ghost use Rattle.campaign_state.specs.Fitness.{emptyFrom, placesFit, InPlan, IsLeg, countsRight, endRight, seatRight};
 ghost use Rattle.campaign_state.specs.Standing.{stanceIs, panelStand, standOf};
 
-// Where a state stands: it is unfit; a mark stands; the end is shown; nothing is to come before the next mark; an order is to come.
+// Where a state stands: it is unfit; a mark stands; the end is shown; a jack is to be seated; nothing is to come before the next mark; an order is to come.
 pub enum Stance {
     Unfit,
     AtMark,
     AtEnd,
+    Seat(Jack),
     Clear,
     Next(Order),
 }
@@ -85,6 +87,23 @@ fn end_right(s: State, l: Leg) -> bool
     true
 }
 
+// Whether the next jack to seat, if there is one, is of the panel, with no mark standing and the end not shown.
+fn seat_right(s: State) -> bool
+    ensures { λ r. ⌜ r ≡ seatRight s ⌝ }
+{
+    let plan = s.plan;
+    if plan.ports < s.seat {
+        return false;
+    }
+    if 0 < s.seat {
+        if s.standing {
+            return false;
+        }
+        return !s.ended;
+    }
+    true
+}
+
 // Whether the panel has the pattern of the standing or next mark.
 fn at_pattern(s: State, l: Leg) -> bool
     requires { ⌜ InPlan s × IsLeg s l ⌝ }
@@ -117,6 +136,12 @@ fn by_panel(s: State, l: Leg) -> Stance
         }
         return Stance::Unfit;
     }
+    if 0 < s.seat {
+        if at_pattern(s, l) {
+            return Stance::Seat(Jack(s.seat));
+        }
+        return Stance::Unfit;
+    }
     let plan = s.plan;
     let panel = s.panel;
     match coming(plan.ports, l, s.step, panel) {
@@ -144,7 +169,9 @@ fn by_moment(s: State) -> Stance
     }
     if counts_right(s) {
         if end_right(s, l) {
-            return by_panel(s, l);
+            if seat_right(s) {
+                return by_panel(s, l);
+            }
         }
     }
     Stance::Unfit

@@ -8,8 +8,8 @@ use Rattle.promise.specs.Campaign.{here}
 use Rattle.plan_rules.specs.Rules.{legsOf}
 use Rattle.campaign_state.specs.State.{settingOf, momentOf}
 use Rattle.campaign_state.specs.Fitness.{InPlan}
-use Rattle.campaign_state.proofs.Places.{Sized, plan-ruled, many-legs}
-use Rattle.campaign_state.proofs.Stands.{unfit-leg, unfit-step, unfit-errors, unfit-counts, unfit-end, stand-panel}
+use Rattle.campaign_state.proofs.Places.{Sized, plan-ruled, many-legs, pattern-over}
+use Rattle.campaign_state.proofs.Stands.{unfit-leg, unfit-step, unfit-errors, unfit-counts, unfit-end, unfit-seat, stand-panel}
 use Rattle.campaign_state.proofs.judging.by_moment.Statement.{statement}
 use Rattle.campaign_state.proofs.judging.by_moment.Tie as tie
 
@@ -55,28 +55,41 @@ end-right-requires : tie.Need-end-right-requires
 end-right-requires c κs = let e = c .before .before in (inside e, e .before .before .before .before .before .leg-at .ensures)
 
 by-panel-requires : tie.Need-by-panel-requires
-by-panel-requires c κs = let e = c .before .before .before .before in (inside e, e .before .before .before .before .before .leg-at .ensures)
+by-panel-requires c κs =
+    let e = c .before .before .before .before .before .before in
+    (inside e, e .before .before .before .before .before .leg-at .ensures)
 
 returns-4 : tie.Need-returns-4
 returns-4 c =
-    let r = c .before in
+    let q = c .before in
+    let r = q .before .before in
     let t = r .before .before in
     let e = t .before .before in
     let i = inside e in
     c .by-panel .ensures
     ∙ stand-panel _ (i .places) (i .leg) (i .step) (e .if3 .left) (sym (t .before .counts-right .ensures) ∙ t .if4 .taken)
-    (sym (r .before .end-right .ensures) ∙ r .if5 .taken)
+    (sym (r .before .end-right .ensures) ∙ r .if5 .taken) (sym (q .before .seat-right .ensures) ∙ q .if6 .taken)
+    (pattern-over _ (sized (e .before .before .before .before .before .before .before .before .before .before)) i)
 
 returns-5 : tie.Need-returns-5
 returns-5 c =
+    let r = c .before .before in
+    let t = r .before .before in
+    let e = t .before .before in
+    let i = inside e in
+    unfit-seat _ (i .places) (i .leg) (i .step) (e .if3 .left) (sym (t .before .counts-right .ensures) ∙ t .if4 .taken)
+    (sym (r .before .end-right .ensures) ∙ r .if5 .taken) (sym (c .before .seat-right .ensures) ∙ c .if6 .left)
+
+returns-6 : tie.Need-returns-6
+returns-6 c =
     let t = c .before .before in
     let e = t .before .before in
     let i = inside e in
     unfit-end _ (i .places) (i .leg) (i .step) (e .if3 .left) (sym (t .before .counts-right .ensures) ∙ t .if4 .taken)
     (sym (c .before .end-right .ensures) ∙ c .if5 .left)
 
-returns-6 : tie.Need-returns-6
-returns-6 c =
+returns-7 : tie.Need-returns-7
+returns-7 c =
     let e = c .before .before in
     let i = inside e in
     unfit-counts _ (i .places) (i .leg) (i .step) (e .if3 .left) (sym (c .before .counts-right .ensures) ∙ c .if4 .left)
@@ -91,7 +104,9 @@ by-moment-spec =
     returns-3
     (λ c κs. inside c)
     end-right-requires
+    (λ c κs. search needs)
     by-panel-requires
     returns-4
     returns-5
-    returns-6)
+    returns-6
+    returns-7)
