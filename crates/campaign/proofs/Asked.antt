@@ -13,7 +13,7 @@ use Rattle.listing.specs.Limits.{largest64}
 use Rattle.listing.specs.Count.{count}
 use Rattle.promise.specs.Plan.{Leg}
 use Rattle.promise.specs.Campaign as model
-use Rattle.promise.specs.Campaign.{Call, request, reportTo, report, movement, mark, theEnd, taken, refusal}
+use Rattle.promise.specs.Campaign.{Call, request, reportTo, report, movement, seat, mark, theEnd, taken, refusal}
 use Rattle.promise.specs.Campaign.{todo, toCome, rankOf, numberOf, closedMarks, offer, standsFor}
 use Rattle.promise.specs.Derangements.{derangements}
 use Rattle.promise.proofs.Ways.{coming}
@@ -61,17 +61,24 @@ module _ (s : State) (f : fit s ≡ true) where
   unfolding offer
   end-answer room st en = offered room st ∙ ap (roomed room) (rw en refl)
 
+  -- the next jack to seat
+  pub seat-answer : (room : ℕ) → 0 < s .seat → answerOf (request room) s ≡ roomed room (seat (s .seat))
+  unfolding offer
+  seat-answer room sn =
+      let m = moment-fit s f .seated sn in
+      offered room (m .0) ∙ ap (roomed room) (rw (m .1, lt-ltb 0 (s .seat) sn) refl)
+
   -- the mark
-  pub mark-answer : (room : ℕ) → s .standing ≡ false → s .ended ≡ false → todo (settingOf s) (momentOf s) ≡ some []
+  pub mark-answer : (room : ℕ) → s .standing ≡ false → s .ended ≡ false → s .seat ≡ 0 → todo (settingOf s) (momentOf s) ≡ some []
       → answerOf (request room) s ≡ roomed room (mark (closedMarks (settingOf s) (momentOf s)) (rankOf (settingOf s) (momentOf s)))
   unfolding offer
-  mark-answer room st en w = offered room st ∙ ap (roomed room) (rw (en, w) refl)
+  mark-answer room st en ns w = offered room st ∙ ap (roomed room) (rw (en, ns, w) refl)
 
   -- the next order
-  pub order-answer : (room : ℕ) (o : Order) (os : List Order) → s .standing ≡ false → s .ended ≡ false → todo (settingOf s) (momentOf s) ≡ some (o ∷ os)
-      → answerOf (request room) s ≡ roomed room (movement o)
+  pub order-answer : (room : ℕ) (o : Order) (os : List Order) → s .standing ≡ false → s .ended ≡ false → s .seat ≡ 0
+      → todo (settingOf s) (momentOf s) ≡ some (o ∷ os) → answerOf (request room) s ≡ roomed room (movement o)
   unfolding offer
-  order-answer room o os st en w = offered room st ∙ ap (roomed room) (rw (en, w) refl)
+  order-answer room o os st en ns w = offered room st ∙ ap (roomed room) (rw (en, ns, w) refl)
 
   -- ---- reports
 
@@ -120,7 +127,11 @@ counts-room s z f st =
     let I = fit-inside s f in
     omega (arith, due-standing (momentOf s) m st, number-before (legsOf (s .plan)) (s .leg) (s .step) (I .leg), number-room s z I)
 
--- ---- the next order is in shape
+-- ---- the next jack to seat is of the panel, the next order is in shape
+
+pub seat-below : (s : State) → fit s ≡ true → s .seat ≤ s .plan .ports
+unfolding derangements
+seat-below s f = moment-fit s f .seat
 
 -- of the orders still to come the first is in shape on the panel
 pub next-shaped : (n : ℕ) → 2 ≤ n → (l : Leg) (k : ℕ) (q : List ℕ) (o : Order) (os : List Order) → l .start < count n

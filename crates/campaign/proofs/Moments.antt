@@ -10,15 +10,15 @@ use native.Mathlib.Omega.{arith}
 use lib.ListN.{length, take, drop, take-append-drop}
 use borrow.Author.Tests.{lt-ltb, le-ltb}
 use Rattle.promise.specs.Campaign as model
-use Rattle.promise.specs.Campaign.{Call, here, closed, placed, refusal, ran, error, gaveUp, heard, withMark, withCounts}
+use Rattle.promise.specs.Campaign.{Call, here, closed, placed, refusal, ran, error, gaveUp, heard, withMark, withSeat, withCounts}
 use Rattle.campaign_state.specs.State.{settingOf, momentOf, atMoment}
 use Rattle.campaign_state.specs.Fitness.{placesFit, InPlan}
 use Rattle.campaign_state.specs.declared.State.{State}
 use Rattle.campaign.specs.Calls.{after}
 
 -- the state with its plan, and everything else as given
-abbrev pub made : State → ℕ → ℕ → ℕ → ℕ → ℕ → Bool → Bool → List ℕ → State
-made s leg step covered opened errors standing ended panel = record {
+abbrev pub made : State → ℕ → ℕ → ℕ → ℕ → ℕ → Bool → Bool → ℕ → List ℕ → State
+made s leg step covered opened errors standing ended seat panel = record {
   plan = s .plan;
   panel = panel;
   leg = leg;
@@ -28,13 +28,14 @@ made s leg step covered opened errors standing ended panel = record {
   errors = errors;
   standing = standing;
   ended = ended;
+  seat = seat;
 }
 
 -- a moment with the panel as it was leaves the panel
 pub panel-stays : (m : model.State) (s : State) → m .panel ≡ take (s .plan .ports) (s .panel)
-    → atMoment m s ≡ made s (m .leg) (m .step) (m .covered) (m .opened) (m .errors) (m .standing) (m .ended) (s .panel)
+    → atMoment m s ≡ made s (m .leg) (m .step) (m .covered) (m .opened) (m .errors) (m .standing) (m .ended) (m .toSeat) (s .panel)
 panel-stays m s e =
-    ap (made s (m .leg) (m .step) (m .covered) (m .opened) (m .errors) (m .standing) (m .ended))
+    ap (made s (m .leg) (m .step) (m .covered) (m .opened) (m .errors) (m .standing) (m .ended) (m .toSeat))
     (ap (λ q. q ++ drop (s .plan .ports) (s .panel)) e ∙ take-append-drop (s .plan .ports) (s .panel))
 
 -- the moment of a state is its own
@@ -54,7 +55,7 @@ one-more n = omega arith
 
 module _ (s : State) where
   abbrev pub left : ℕ → ℕ → Bool → State
-  left leg step ended = made s leg step (s .covered) (s .opened) (s .errors) false ended (s .panel)
+  left leg step ended = made s leg step (s .covered) (s .opened) (s .errors) false ended (s .seat) (s .panel)
 
   -- on to the next step
   pub closed-step : s .step < here (settingOf s) (momentOf s) .run → left (s .leg) (s .step + 1) false ≡ atMoment (closed (settingOf s) (momentOf s)) s
@@ -82,7 +83,7 @@ module _ (s : State) where
 
   -- the state with its counts as given
   abbrev pub counted : ℕ → ℕ → ℕ → Bool → State
-  counted covered opened errors standing = made s (s .leg) (s .step) covered opened errors standing (s .ended) (s .panel)
+  counted covered opened errors standing = made s (s .leg) (s .step) covered opened errors standing (s .ended) (s .seat) (s .panel)
 
   -- it is at the same leg and step
   pub counted-inside : InPlan s → (covered opened errors : ℕ) (standing : Bool) → InPlan (counted covered opened errors standing)
@@ -101,9 +102,10 @@ module _ (s : State) where
   unfolding heard
   gave-up-leaves = rw (one-more (s .opened), zero-add (s .covered), zero-add (s .errors)) refl
 
-  -- 'Error adds one to errors', and the mark stands no more
-  pub error-leaves : counted (s .covered) (s .opened) (s .errors + 1) false ≡ atMoment (heard (settingOf s) error (momentOf s)) s
+  -- 'Error adds one to errors', the mark stands no more, and jack 1 is the next to seat
+  pub error-leaves : made s (s .leg) (s .step) (s .covered) (s .opened) (s .errors + 1) false (s .ended) 1 (s .panel)
+      ≡ atMoment (heard (settingOf s) error (momentOf s)) s
   unfolding heard
   error-leaves =
       rw (one-more (s .errors), zero-add (s .covered), zero-add (s .opened))
-      (sym (panel-stays (withMark false (withCounts (s .covered) (s .opened) (s .errors + 1) (momentOf s))) s refl))
+      (sym (panel-stays (withSeat 1 (withMark false (withCounts (s .covered) (s .opened) (s .errors + 1) (momentOf s)))) s refl))

@@ -3,6 +3,7 @@
 use mathlib.Core.Path.{_≡_, refl, sym, ap, _∙_}
 use mathlib.Core.List.{List}
 use Prim.Native.Nat.{ℕ}
+use Rattle.words.specs.Meaning.{jackAt}
 use Rattle.words.proofs.Once.{order-once, refusal-once, outcome-once}
 use Rattle.promise.specs.Campaign as model
 use Rattle.promise.specs.Campaign.{Call}
@@ -13,7 +14,7 @@ use Rattle.campaign.specs.declared.Begun.{Begun}
 use Rattle.campaign.specs.declared.Requested.{Requested}
 use Rattle.campaign.specs.declared.Reported.{Reported}
 use Rattle.campaign.specs.declared.Answer.{Answer}
-use Rattle.campaign.specs.declared.Answer.the-variants.{Movement, Mark, End, Refused as Answer-Refused}
+use Rattle.campaign.specs.declared.Answer.the-variants.{Movement, Seat, Mark, End, Refused as Answer-Refused}
 use Rattle.words.specs.declared.Outcome.{Outcome}
 use Rattle.words.specs.declared.Outcome.the-variants.{Accepted, Refused}
 
@@ -21,18 +22,27 @@ use Rattle.words.specs.declared.Outcome.the-variants.{Accepted, Refused}
 
 answer-once : (a b : Answer) → answerTold a ≡ answerTold b → a ≡ b
 answer-once (Movement o) (Movement v) e = ap Movement (order-once o v (cc))
+answer-once (Movement o) (Seat i) e = cc
 answer-once (Movement o) (Mark k r) e = cc
 answer-once (Movement o) (End k) e = cc
 answer-once (Movement o) (Answer-Refused f) e = cc
+answer-once (Seat j) (Movement o) e = cc
+answer-once (Seat j) (Seat i) e = let same : j .0 ≡ i .0 = cc in ap (λ k. Seat (jackAt k)) same
+answer-once (Seat j) (Mark k r) e = cc
+answer-once (Seat j) (End k) e = cc
+answer-once (Seat j) (Answer-Refused f) e = cc
 answer-once (Mark k r) (Movement o) e = cc
+answer-once (Mark k r) (Seat i) e = cc
 answer-once (Mark k r) (Mark j q) e = cc
 answer-once (Mark k r) (End j) e = cc
 answer-once (Mark k r) (Answer-Refused f) e = cc
 answer-once (End k) (Movement o) e = cc
+answer-once (End k) (Seat i) e = cc
 answer-once (End k) (Mark j q) e = cc
 answer-once (End k) (End j) e = cc
 answer-once (End k) (Answer-Refused f) e = cc
 answer-once (Answer-Refused f) (Movement o) e = cc
+answer-once (Answer-Refused f) (Seat i) e = cc
 answer-once (Answer-Refused f) (Mark j q) e = cc
 answer-once (Answer-Refused f) (End j) e = cc
 answer-once (Answer-Refused f) (Answer-Refused g) e = ap Answer-Refused (refusal-once f g e)

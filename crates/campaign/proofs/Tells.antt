@@ -11,13 +11,15 @@ use lib.ListN.{length}
 use borrow.Author.Tests.{ltb-false}
 use Rattle.words.specs.Told.{Told, Spot, accepted, refused, nowhere}
 use Rattle.words.specs.Meaning.{numberOf}
-use Rattle.words.specs.declared.Line.the-variants.{Mark, End}
+use Rattle.words.specs.declared.Jack.{Jack}
+use Rattle.words.specs.declared.Line.the-variants.{Seat, Mark, End}
 use Rattle.words.specs.declared.Reason.{Reason}
 use Rattle.words.specs.declared.Place.the-variants.{Nowhere}
 use Rattle.words.proofs.Told.{not-both}
 use Rattle.promise.proofs.Refusals.{stands-none}
 use Rattle.promise.specs.Campaign as model
-use Rattle.promise.specs.Campaign.{Call, request, reportTo, report, movement, mark, theEnd, taken, refusal, fit, offer}
+use Rattle.promise.specs.Campaign.{Call, request, reportTo, report, movement, seat, mark, theEnd, taken, refusal, fit, offer}
+use Rattle.promise.specs.Derangements.{derangements}
 use Rattle.line_format.specs.Calls.{over}
 use Rattle.campaign_state.specs.State.{answerText, width, settingOf, momentOf}
 use Rattle.campaign_state.specs.Fitness.{placesFit}
@@ -69,6 +71,7 @@ retold j k p q e = let n : j ≡ k = cc in let s : p ≡ q = cc in λ i. refused
 -- what is told is told of one answer
 pub told-given : (a : model.Answer) {b : model.Answer} → toldOf a ≡ accepted b → a ≡ b
 told-given (movement o) e = cc
+told-given (seat j) e = cc
 told-given (mark k r) e = cc
 told-given (theEnd k) e = cc
 told-given taken e = cc
@@ -76,6 +79,7 @@ told-given (refusal k) e = absurd (not-both e)
 
 pub told-refused : (a : model.Answer) {k : ℕ} {p : Spot} → toldOf a ≡ refused k p → a ≡ refusal k
 told-refused (movement o) e = absurd (not-both (sym e))
+told-refused (seat j) e = absurd (not-both (sym e))
 told-refused (mark j r) e = absurd (not-both (sym e))
 told-refused (theEnd j) e = absurd (not-both (sym e))
 told-refused taken e = absurd (not-both (sym e))
@@ -85,6 +89,7 @@ told-refused (refusal j) {k} e = let n : j ≡ k = cc in ap refusal n
 pub any-room : (r q : ℕ) (a : model.Answer) (s : State) → after (request r) a s ≡ after (request q) a s
 unfolding model.after
 any-room r q (movement o) s = refl
+any-room r q (seat j) s = refl
 any-room r q (mark k j) s = refl
 any-room r q (theEnd k) s = refl
 any-room r q taken s = refl
@@ -96,7 +101,15 @@ unfolding leftOf
 left-so c s e = e
 
 -- a line that was handed out
-pub line-leaves-mark : (k r : ℕ) (s : State) → made s (s .leg) (s .step) (s .covered) (s .opened) (s .errors) true (s .ended) (s .panel) ≡ after (request 0) (lineIs (Mark k r)) s
+pub line-leaves-seat : (j : Jack) (s : State) (k : ℕ) → k ≡ model.seatAfter (s .plan .ports) (j .0)
+    → made s (s .leg) (s .step) (s .covered) (s .opened) (s .errors) (s .standing) (s .ended) k (s .panel) ≡ after (request 0) (lineIs (Seat j)) s
+unfolding model.after derangements
+line-leaves-seat j s k e =
+    ap (λ x. made s (s .leg) (s .step) (s .covered) (s .opened) (s .errors) (s .standing) (s .ended) x (s .panel)) e
+    ∙ sym (panel-stays (model.withSeat (model.seatAfter (s .plan .ports) (j .0)) (momentOf s)) s refl)
+
+pub line-leaves-mark : (k r : ℕ) (s : State)
+    → made s (s .leg) (s .step) (s .covered) (s .opened) (s .errors) true (s .ended) (s .seat) (s .panel) ≡ after (request 0) (lineIs (Mark k r)) s
 unfolding model.after
 line-leaves-mark k r s = sym (panel-stays (model.withMark true (momentOf s)) s refl)
 
@@ -116,6 +129,7 @@ bytes-stay s buf k e = bytes-by s buf (refusal k) e
 any-name : (o : Option ℕ) (kind : ℕ) (a : model.Answer) (s : State) → after (report kind) a s ≡ after (reportTo o kind) a s
 unfolding model.after
 any-name o kind (movement x) s = refl
+any-name o kind (seat j) s = refl
 any-name o kind (mark k j) s = refl
 any-name o kind (theEnd k) s = refl
 any-name o kind taken s = refl

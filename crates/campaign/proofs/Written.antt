@@ -11,7 +11,7 @@ use Rattle.listing.proofs.Numbers.{either, below?}
 use Rattle.words.specs.Told.{Told, Spot, accepted, refused, nowhere}
 use Rattle.words.specs.Shape.{lineFits}
 use Rattle.words.specs.declared.Line.{Line}
-use Rattle.words.specs.declared.Line.the-variants.{Movement, Mark, End}
+use Rattle.words.specs.declared.Line.the-variants.{Movement, Seat, Mark, End}
 use Rattle.words.proofs.Once.{order-back}
 use Rattle.words.proofs.Shape.{fits-more}
 use Rattle.words.proofs.Told.{not-both, accepted-once}
@@ -25,6 +25,7 @@ use Rattle.campaign.specs.Calls.{lineIs, roomed}
 -- the text of the answer that a line is, is the line's
 pub text-of-line : (l : Line) → answerText (lineIs l) ≡ lineText l
 text-of-line (Movement o) = ap (λ x. lineText (Movement x)) (order-back o)
+text-of-line (Seat j) = refl
 text-of-line (Mark k r) = refl
 text-of-line (End k) = refl
 

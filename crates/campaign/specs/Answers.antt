@@ -8,7 +8,7 @@ use mathlib.Core.Option.{Option, none, some}
 use Rattle.words.specs.Told.{Told, accepted, then}
 use Rattle.words.specs.Meaning.{orderOf, refusalOf, outcomeTold}
 use Rattle.promise.specs.Campaign as model
-use Rattle.promise.specs.Campaign.{Call, reportTo, movement, mark, theEnd, taken, standsFor}
+use Rattle.promise.specs.Campaign.{Call, reportTo, movement, seat, mark, theEnd, taken, standsFor}
 use Rattle.plans.specs.Calls.{readPlanOf}
 use Rattle.campaign_state.specs.State.{width, settingOf, momentOf}
 use Rattle.campaign_state.specs.declared.State.{State}
@@ -19,12 +19,13 @@ use Rattle.campaign.specs.declared.Reported.{Reported}
 use Rattle.campaign.specs.declared.reports.On.{On}
 use Rattle.campaign.specs.declared.reports.On.the-variants.{Standing, Number}
 use Rattle.campaign.specs.declared.Answer.{Answer}
-use Rattle.campaign.specs.declared.Answer.the-variants.{Movement, Mark, End, Refused as Answer-Refused}
+use Rattle.campaign.specs.declared.Answer.the-variants.{Movement, Seat, Mark, End, Refused as Answer-Refused}
 use Rattle.words.specs.declared.Outcome.{Outcome}
 use Rattle.words.specs.declared.Outcome.the-variants.{Accepted, Refused}
 
 abbrev pub answerTold : Answer → Told model.Answer
 answerTold (Movement o) = accepted (movement (orderOf o))
+answerTold (Seat j) = accepted (seat (j .0))
 answerTold (Mark k r) = accepted (mark k r)
 answerTold (End k) = accepted (theEnd k)
 answerTold (Answer-Refused f) = refusalOf f

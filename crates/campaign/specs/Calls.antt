@@ -10,7 +10,7 @@ use Rattle.listing.specs.Ends.{home}
 use Rattle.listing.specs.Limits.{mostPorts, mostLegs}
 use Rattle.words.specs.Meaning.{orderOf}
 use Rattle.words.specs.declared.Line.{Line}
-use Rattle.words.specs.declared.Line.the-variants.{Movement, Mark, End}
+use Rattle.words.specs.declared.Line.the-variants.{Movement, Seat, Mark, End}
 use Rattle.words.specs.Told.{Told, accepted, refused, nowhere}
 use Rattle.words.specs.Padded.{padded}
 use Rattle.line_format.specs.Calls.{over}
@@ -18,7 +18,7 @@ use Rattle.plan_rules.specs.Places.{heldOf}
 use Rattle.plans.specs.Calls.{readPlanOf}
 use Rattle.plan_rules.specs.declared.Plan.{Plan}
 use Rattle.promise.specs.Campaign as model
-use Rattle.promise.specs.Campaign.{Call, request, movement, mark, theEnd, taken, refusal}
+use Rattle.promise.specs.Campaign.{Call, request, movement, seat, mark, theEnd, taken, refusal}
 use Rattle.campaign_state.specs.State.{answerText, width, settingOf, momentOf, atMoment}
 use Rattle.campaign_state.specs.Fitness.{placesFit}
 use Rattle.campaign_state.specs.declared.State.{State}
@@ -30,6 +30,7 @@ answerOf c s = cond (placesFit s) (model.answer (settingOf s) c (momentOf s)) (r
 -- what it tells: a refusal is at no place
 abbrev pub toldOf : model.Answer → Told model.Answer
 toldOf (movement o) = accepted (movement o)
+toldOf (seat j) = accepted (seat j)
 toldOf (mark k r) = accepted (mark k r)
 toldOf (theEnd k) = accepted (theEnd k)
 toldOf taken = accepted taken
@@ -52,6 +53,7 @@ bytesOf s buf = over (answerText (answerOf (request (length buf)) s)) buf
 -- the answer that a line is
 abbrev pub lineIs : Line → model.Answer
 lineIs (Movement o) = movement (orderOf o)
+lineIs (Seat j) = seat (j .0)
 lineIs (Mark k r) = mark k r
 lineIs (End k) = theEnd k
 
@@ -61,7 +63,7 @@ roomed room a = cond (ltb room (width a)) (refusal 2) a
 
 -- ---- the beginning
 
--- 'the first state: panel at home, leg, step and counts 0, no mark standing, end not shown'; unused places 0
+-- 'the first state: panel at home, leg, step and counts 0, no mark standing, end not shown'; no jack to seat, unused places 0
 abbrev pub firstState : Plan → State
 firstState p = record {
   plan = p;
@@ -73,6 +75,7 @@ firstState p = record {
   errors = 0;
   standing = false;
   ended = false;
+  seat = 0;
 }
 
 -- the state that a text leaves: the first state of its plan; all zeros if it is refused

@@ -26,6 +26,7 @@ fn first_state(p: Plan) -> State
         errors: 0,
         standing: false,
         ended: false,
+        seat: 0,
     }
 }
 

@@ -4,6 +4,7 @@ pub mod reports;
 pub mod requests;
 
 use campaign_state::State;
+use words::Jack;
 use words::Order;
 use words::Outcome;
 use words::Refusal;
@@ -26,9 +27,10 @@ pub struct Begun {
     pub campaign: Campaign,
 }
 
-// The answer to a request: a movement order, a mark with its number and rank, the end with the plan's marks, or a refusal.
+// The answer to a request: a movement order, a jack whose cord is to be seated anew, a mark with its number and rank, the end with the plan's marks, or a refusal.
 pub enum Answer {
     Movement(Order),
+    Seat(Jack),
     Mark(u64, u64),
     End(u64),
     Refused(Refusal),

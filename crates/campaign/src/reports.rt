@@ -72,7 +72,7 @@ fn taken(s: State) -> Reported
     }
 }
 
-// A report on a standing mark: 0 ran, 1 error, 2 gave up.
+// A report on a standing mark: 0 ran, 1 error, 2 gave up. After an error each jack is to be seated, from jack 1 on.
 fn of_mark(s: State, kind: u8) -> Reported
     requires { ⌜ (fit s ≡ true) × (s .standing ≡ true) ⌝ }
     ensures { λ r. ⌜ ReportIs (report kind) (answerOf (report kind) s) s r ⌝ }
@@ -92,6 +92,7 @@ fn of_mark(s: State, kind: u8) -> Reported
             }
             next.errors = s.errors + 1;
             next.standing = false;
+            next.seat = 1;
             taken(next)
         }
         _ => {
@@ -136,6 +137,7 @@ fn reported(s: State, on: On, kind: u8) -> Reported
             of_none(s, kind)
         }
         Stance::AtEnd => of_none(s, kind),
+        Stance::Seat(_) => of_none(s, kind),
         Stance::Clear => of_none(s, kind),
         Stance::Next(_) => of_none(s, kind),
     }

@@ -1,4 +1,4 @@
-// Requests: the next movement order, the mark, or the end, with its line.
+// Requests: the next movement order, the next jack to seat, the mark, or the end, with its line.
 use crate::Answer;
 use crate::Campaign;
 use crate::Requested;
@@ -10,6 +10,7 @@ use campaign_state::marks::mark_rank;
 use line_writer::answers::Written;
 use line_writer::order_lines::write_line;
 use pattern_carry::panels::after_order;
+use words::Jack;
 use words::Line;
 use words::Order;
 use words::Reason;
@@ -21,7 +22,7 @@ ghost use lib.ListN.{length};
 ghost use Rattle.listing.specs.Limits.{mostPorts};
 ghost use Rattle.words.specs.Shape.{lineFits};
 ghost use Rattle.words.specs.declared.Place.the-variants.{Nowhere};
-ghost use Rattle.words.specs.declared.Line.the-variants.{Movement, Mark};
+ghost use Rattle.words.specs.declared.Line.the-variants.{Movement, Seat, Mark};
 ghost use Rattle.promise.specs.Campaign.{request, closedMarks, rankOf};
 ghost use Rattle.line_format.specs.Calls.{over};
 ghost use Rattle.campaign_state.specs.State.{settingOf, momentOf, answerText};
@@ -55,16 +56,33 @@ fn after_movement(s: State, o: Order) -> State
         errors: s.errors,
         standing: s.standing,
         ended: s.ended,
+        seat: s.seat,
     }
 }
 
-// The state after a line was handed out: a mark stands, the end leaves the state as it is.
+// The state after a seat: the next jack is to be seated, none after the last.
+fn after_seat(s: State, j: Jack) -> State
+    requires { ⌜ (s .plan .ports ≤ mostPorts) × (lineFits (s .plan .ports) (Seat j) ≡ true) ⌝ }
+    ensures { λ r. ⌜ r ≡ after (request 0) (lineIs (Seat j)) s ⌝ }
+{
+    let plan = s.plan;
+    let mut next = s;
+    if j.0 == plan.ports {
+        next.seat = 0;
+        return next;
+    }
+    next.seat = j.0 + 1;
+    next
+}
+
+// The state after a line was handed out: an order moves the panel, a seat leaves the next one, a mark stands, the end leaves the state as it is.
 fn after_line(s: State, line: Line) -> State
     requires { ⌜ (s .plan .ports ≤ mostPorts) × (lineFits (s .plan .ports) line ≡ true) ⌝ }
     ensures { λ r. ⌜ r ≡ after (request 0) (lineIs line) s ⌝ }
 {
     match line {
         Line::Movement(o) => after_movement(s, o),
+        Line::Seat(j) => after_seat(s, j),
         Line::Mark(_, _) => {
             let mut next = s;
             next.standing = true;
@@ -80,6 +98,7 @@ fn answer_of(line: Line) -> Answer
 {
     match line {
         Line::Movement(o) => Answer::Movement(o),
+        Line::Seat(j) => Answer::Seat(j),
         Line::Mark(number, rank) => Answer::Mark(number, rank),
         Line::End(marks) => Answer::End(marks),
     }
@@ -129,6 +148,7 @@ impl Campaign {
             Stance::Unfit => refused(s, Reason::Unfit),
             Stance::AtMark => refused(s, Reason::MarkStands),
             Stance::AtEnd => hand_out(s, Line::End(closed_marks(s)), buf),
+            Stance::Seat(j) => hand_out(s, Line::Seat(j), buf),
             Stance::Clear => hand_out(s, next_mark(s), buf),
             Stance::Next(o) => hand_out(s, Line::Movement(o), buf),
         }

@@ -66,7 +66,7 @@ module _ (p : Planned) (f : Fits device p) where
   unfolding first derangements
   first-moment =
       let n : ℕ = held .ports in
-      ap (λ q. record { panel = q; leg = 0; step = 0; covered = 0; opened = 0; errors = 0; standing = false; ended = false })
+      ap (λ q. record { panel = q; leg = 0; step = 0; covered = 0; opened = 0; errors = 0; standing = false; ended = false; toSeat = 0 })
       (padded-front mostPorts n 0 (home n) (length-home n))
 
   -- its panel has a place for each port

@@ -11,8 +11,8 @@ use lib.ListN.{length, take, drop, length-append, length-drop}
 use lib.Seq.{length-take-le, take-append-seam, drop-append-seam}
 use Rattle.listing.proofs.Panels.{length-carry}
 use Rattle.promise.specs.Campaign as model
-use Rattle.promise.specs.Campaign.{Setting, Call, request, reportTo, Report, reportOf, isClosing, tallied, withMark, placed}
-use Rattle.promise.specs.Campaign.{Answer, movement, mark, theEnd, taken, refusal, here, answer, closed, heard, after}
+use Rattle.promise.specs.Campaign.{Setting, Call, request, reportTo, Report, reportOf, isClosing, tallied, withMark, withSeat, placed}
+use Rattle.promise.specs.Campaign.{Answer, movement, seat, mark, theEnd, taken, refusal, here, answer, closed, heard, after}
 use Rattle.promise.specs.Bench.{Turn, run, leaves}
 use Rattle.plan_rules.specs.Planned.{device}
 use Rattle.plan_rules.specs.Rules.{planRuled}
@@ -42,7 +42,7 @@ heard-panel : (C : Setting) (w : Report) (m : model.State) → heard C w m .pane
 unfolding heard
 heard-panel C w m = by (isClosing w)
   where
-    by : (b : Bool) → cond b (closed C (tallied w m)) (withMark false (tallied w m)) .panel ≡ m .panel
+    by : (b : Bool) → cond b (closed C (tallied w m)) (withSeat 1 (withMark false (tallied w m))) .panel ≡ m .panel
     by true = closed-leaves (λ s. s .panel) C (tallied w m) (λ i k b. refl)
     by false = refl
 
@@ -50,6 +50,7 @@ heard-panel C w m = by (isClosing w)
 pub after-length : (C : Setting) (c : Call) (a : Answer) (m : model.State) → length (after C c a m .panel) ≡ length (m .panel)
 unfolding after
 after-length C c (movement o) m = length-carry o (m .panel)
+after-length C c (seat j) m = refl
 after-length C c (mark k r) m = refl
 after-length C c (theEnd k) m = refl
 after-length C (request room) taken m = refl
@@ -79,6 +80,7 @@ module _ (m : model.State) (s : State) (k : Kept s) (long : length (m .panel) �
         errors = m .errors;
         standing = m .standing;
         ended = m .ended;
+        toSeat = m .toSeat;
       })
       e
 

@@ -7,6 +7,7 @@ use mathlib.Core.List.{List, _∷_}
 use mathlib.Core.Option.{Option, none, some}
 use Prim.Native.Nat.{ℕ, _≤_, _<_}
 use native.Mathlib.Omega.{arith}
+use Rattle.listing.specs.Numbers.{Among}
 use Rattle.listing.specs.Count.{count}
 use Rattle.listing.specs.Pattern.{Permutation}
 use Rattle.listing.specs.Orders as list
@@ -16,7 +17,7 @@ use Rattle.listing.proofs.Limits.{count-20, count-most}
 use Rattle.listing.proofs.Sources.{carry-permutation}
 use Rattle.words.specs.Meaning.{orderOf, orderFrom}
 use Rattle.words.proofs.Once.{order-there}
-use Rattle.words.proofs.Shape.{shape-shaped, shape-more}
+use Rattle.words.proofs.Shape.{among-one, shape-shaped, shape-more}
 use Rattle.promise.specs.Plan.{marks}
 use Rattle.promise.specs.Campaign.{State, Setting, Call, Answer, movement, here, numberOf, rankOf, todo}
 use Rattle.promise.specs.Fitness.{Fit}
@@ -24,7 +25,7 @@ use Rattle.promise.specs.Derangements.{derangements}
 use Rattle.promise.proofs.Legs.{number-below}
 use Rattle.promise.proofs.Ways.{way-done}
 use Rattle.promise.proofs.Marks.{closed-so}
-use Rattle.promise.proofs.Steps.{Does, moves-on, hands-out, ends, closes, errs, refuses, listed-here, coming-here}
+use Rattle.promise.proofs.Steps.{Does, moves-on, seats-on, hands-out, ends, closes, errs, refuses, listed-here, coming-here}
 use Rattle.plans.proofs.Longest.{marks-most}
 use Rattle.campaign_state.specs.State.{answerLine}
 use Rattle.campaign_reached.specs.Turns.{AcceptedPlan, campaignOf}
@@ -61,8 +62,17 @@ module _ (P : AcceptedPlan) where
   -- whatever a call does to a fit state, it shows a line of the campaign, or none
   pub shows : {m m' : State} {c : Call} {a : Answer} → Fit C m → Does C m c a m' → Shown (P .plan .ports) (answerLine a) (m .panel) (m' .panel)
   unfolding derangements
-  shows {m} f (moves-on o os st en w) = order-shown o (m .panel) (shape-so m f o os w)
-  shows {m} f (hands-out st en w) =
+  shows {m} f (moves-on o os st en ns w) = order-shown o (m .panel) (shape-so m f o os w)
+  shows {m} f (seats-on sn) =
+      let n : ℕ = P .plan .ports in
+      let is : Among n (m .toSeat) = (sn, f .seat) in
+      record {
+        ours = (sn, omega (arith, f .seat, plan-fits P .manyPorts));
+        fits = among-one n (m .toSeat) is;
+        meets = tt;
+        leads = refl;
+      }
+  shows {m} f (hands-out st en ns w) =
       let r : rankOf C m < count (P .plan .ports) = listed-here C (lawful P) (accepts P) m f (m .step) (omega arith) in
       let k : numberOf C m < marks (P .plan .legs) = number-below (P .plan .legs) (m .leg) (m .step) (f .leg) (f .step) in
       record {
@@ -79,8 +89,9 @@ module _ (P : AcceptedPlan) where
   -- the panel stays a permutation
   pub permutation-on : {m m' : State} {c : Call} {a : Answer} → Fit C m → Does C m c a m' → Permutation (P .plan .ports) (m .panel)
       → Permutation (P .plan .ports) (m' .panel)
-  permutation-on {m} f (moves-on o os st en w) q = carry-permutation (P .plan .ports) o (m .panel) (shape-so m f o os w) q
-  permutation-on f (hands-out st en w) q = q
+  permutation-on {m} f (moves-on o os st en ns w) q = carry-permutation (P .plan .ports) o (m .panel) (shape-so m f o os w) q
+  permutation-on f (seats-on sn) q = q
+  permutation-on f (hands-out st en ns w) q = q
   permutation-on f (ends en) q = q
   permutation-on f (closes st cl x) q = subst (Permutation (P .plan .ports)) (sym (closed-so x .panel)) q
   permutation-on f (errs st lt) q = q

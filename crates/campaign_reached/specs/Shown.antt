@@ -10,13 +10,14 @@ use Rattle.listing.specs.Listing.{at}
 use Rattle.listing.specs.Limits.{mostPorts, largest64}
 use Rattle.words.specs.Shape.{lineFits}
 use Rattle.words.specs.declared.Line.{Line}
-use Rattle.words.specs.declared.Line.the-variants.{Movement, Mark, End}
+use Rattle.words.specs.declared.Line.the-variants.{Movement, Seat, Mark, End}
 use Rattle.line_format.specs.Campaign.{OfCampaign}
 use Rattle.panel.specs.Calls.{afterLine}
 
 -- at a mark the panel is the pattern of the rank in that line
 abbrev pub MeetsAt : ℕ → Line → List ℕ → Type 0
 MeetsAt n (Movement o) q = Unit {0}
+MeetsAt n (Seat j) q = Unit {0}
 MeetsAt n (Mark k r) q = q ≡ at n r
 MeetsAt n (End k) q = Unit {0}
 

@@ -8,7 +8,7 @@ use Rattle.campaign.proofs.beginning.first_state.Tie as tie
 returns : tie.Need-returns
 returns c =
     ap
-    (λ q. record { plan = c .before .args .p; panel = q; leg = 0; step = 0; covered = 0; opened = 0; errors = 0; standing = false; ended = false })
+    (λ q. record { plan = c .before .args .p; panel = q; leg = 0; step = 0; covered = 0; opened = 0; errors = 0; standing = false; ended = false; seat = 0 })
     (c .home-panel .ensures)
 
 pub first-state-spec : {M : Type 1} → statement M

@@ -3,9 +3,9 @@ use mathlib.Core.Path.{_≡_, refl, sym, ap, _∙_}
 use mathlib.Core.Bool.{true, false}
 use borrow.Author.Needs.{needs}
 use Rattle.words.specs.declared.Reason.the-variants.{Unfit}
-use Rattle.campaign_state.specs.Standing.{stanceIs, unfit, atMark, atEnd, clear, next}
+use Rattle.campaign_state.specs.Standing.{stanceIs, unfit, atMark, atEnd, seat, clear, next}
 use Rattle.campaign_state.specs.Fitness.{fit}
-use Rattle.campaign_state.proofs.Fit.{Stood, stands}
+use Rattle.campaign_state.proofs.Fit.{moment-fit, Stood, stands}
 use Rattle.campaign.specs.Answers.{onIs}
 use Rattle.campaign.proofs.Asked.{unfit-answer, named-answer}
 use Rattle.campaign.proofs.Tells.{report-refused, report-named, unheard}
@@ -19,12 +19,17 @@ at-mark c = stands _ atMark (ap stanceIs (sym (c .enum-told2 .given .1)) ∙ c .
 at-end : (c : tie.After-enum-told3) → Stood (c .before .before .before .args .s) atEnd
 at-end c = stands _ atEnd (ap stanceIs (sym (c .enum-told3 .given .1)) ∙ c .before .before .judge .ensures)
 
-at-clear : (c : tie.After-enum-told4) → Stood (c .before .before .before .args .s) clear
-at-clear c = stands _ clear (ap stanceIs (sym (c .enum-told4 .given .1)) ∙ c .before .before .judge .ensures)
+at-seat : (c : tie.After-enum-told4) → let s = c .before .before .before .args .s in (fit s ≡ true) × (s .standing ≡ false)
+at-seat c =
+    let f = stands _ (seat _) (ap stanceIs (sym (c .enum-told4 .given .1)) ∙ c .before .before .judge .ensures) in
+    (f .0, moment-fit _ (f .0) .seated (f .1) .0)
 
-before-order : (c : tie.After-enum-told5) → let s = c .before .before .before .args .s in (fit s ≡ true) × (s .standing ≡ false)
+at-clear : (c : tie.After-enum-told5) → Stood (c .before .before .before .args .s) clear
+at-clear c = stands _ clear (ap stanceIs (sym (c .enum-told5 .given .1)) ∙ c .before .before .judge .ensures)
+
+before-order : (c : tie.After-enum-told6) → let s = c .before .before .before .args .s in (fit s ≡ true) × (s .standing ≡ false)
 before-order c =
-    let f = stands _ (next _) (ap stanceIs (sym (c .enum-told5 .given .1)) ∙ c .before .before .judge .ensures) in
+    let f = stands _ (next _) (ap stanceIs (sym (c .enum-told6 .given .1)) ∙ c .before .before .judge .ensures) in
     (f .fits, f .none)
 
 -- it is the report of the mark that stands
@@ -60,11 +65,14 @@ reported-spec =
     (λ c. search needs)
     (λ c κs. at-end c .0)
     (λ c. search needs)
+    (λ c κs. at-seat c .0)
+    (λ c. search needs)
     (λ c κs. at-clear c .0)
     (λ c. search needs)
     (λ c κs. before-order c .0)
     returns-2
     returns-3
     (λ c. unheard (onIs (c .before .before .before .before .args .on)) (c .of-none2 .ensures) (at-end (c .before) .1))
-    (λ c. unheard (onIs (c .before .before .before .before .args .on)) (c .of-none3 .ensures) (at-clear (c .before) .1))
-    (λ c. unheard (onIs (c .before .before .before .before .args .on)) (c .of-none4 .ensures) (before-order (c .before) .1)))
+    (λ c. unheard (onIs (c .before .before .before .before .args .on)) (c .of-none3 .ensures) (at-seat (c .before) .1))
+    (λ c. unheard (onIs (c .before .before .before .before .args .on)) (c .of-none4 .ensures) (at-clear (c .before) .1))
+    (λ c. unheard (onIs (c .before .before .before .before .args .on)) (c .of-none5 .ensures) (before-order (c .before) .1)))

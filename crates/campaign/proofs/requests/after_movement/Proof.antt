@@ -16,7 +16,7 @@ returns : tie.Need-returns
 unfolding model.after
 returns c =
     let s = c .before .before .before .args .s in
-    ap (made s (s .leg) (s .step) (s .covered) (s .opened) (s .errors) (s .standing) (s .ended)) (c .after-order .ensures)
+    ap (made s (s .leg) (s .step) (s .covered) (s .opened) (s .errors) (s .standing) (s .ended) (s .seat)) (c .after-order .ensures)
 
 pub after-movement-spec : {M : Type 1} → statement M
 after-movement-spec = tie.close (tie.spec after-order-requires returns)
