@@ -1,4 +1,4 @@
--- What going on tells and leaves, case by case: the panel's own refusal, 15, or the state with the panel put in.
+-- What going on tells and leaves, case by case: the panel's own refusal, 15, or the state with the panel put in and its seats begun anew.
 -- Assumes nothing.
 use mathlib.Core.Path.{_≡_, refl, sym, ap, _∙_}
 use mathlib.Core.Logic.{_≢_}
@@ -14,7 +14,7 @@ use Rattle.pattern_check.specs.Calls.{checkAs}
 use Rattle.pattern_check.proofs.Accepted.{accepted-panel}
 use Rattle.campaign_state.specs.Fitness.{fit}
 use Rattle.campaign_state.specs.declared.State.{State}
-use Rattle.campaign_onward.specs.Calls.{panelIn, fitTold, resumeOf, goesOn}
+use Rattle.campaign_onward.specs.Calls.{panelIn, seatsAnew, goingOn, fitTold, resumeOf, goesOn}
 use Rattle.campaign_onward.specs.Answers.{GoesIs, ResumeIs}
 use Rattle.campaign_onward.specs.declared.Resumed.{Resumed}
 use Rattle.words.specs.declared.Refusal.{Refusal}
@@ -48,12 +48,12 @@ module _ (s : State) (p : List ℕ) where
 pub stays-told : (t s : State) (f : Refusal) (x : Told (Unit {0})) (r : Resumed) → refusalOf f ≡ x → GoesIs (refusalOf f) s s r → GoesIs x t s r
 stays-told t s f x r e g = record { judged = g .judged ∙ e; state = g .state ∙ ap (λ z. goesOn z t s) e }
 
--- and the state with the panel goes on
-pub goes-at : (s t : State) (p : List ℕ) → t ≡ panelIn p s → length p ≡ s .plan .ports → true ≡ fit t
-    → GoesIs (fitTold s p) (panelIn p s) s (record { campaign = record { state = t }; judged = Accepted })
-goes-at s t p e l f =
+-- and the state with the panel goes on, its seats begun anew
+pub goes-at : (s t u : State) (p : List ℕ) → t ≡ panelIn p s → u ≡ seatsAnew t → length p ≡ s .plan .ports → true ≡ fit t
+    → GoesIs (fitTold s p) (goingOn p s) s (record { campaign = record { state = u }; judged = Accepted })
+goes-at s t u p e g l f =
     let h = goes-fit s p l (f ∙ ap fit e) in
-    record { judged = h; state = e ∙ ap (λ z. goesOn z (panelIn p s) s) h }
+    record { judged = h; state = g ∙ ap seatsAnew e ∙ ap (λ z. goesOn z (goingOn p s) s) h }
 
 -- ---- with the check of the panel before
 
@@ -62,5 +62,5 @@ pub few-ports : (p : List ℕ) → accepted tt ≡ checkAs false mostPorts p →
 few-ports p e = accepted-panel mostPorts p e .high
 
 -- on a panel that is one, what going on with it comes to
-pub goes-taken : (s : State) (p : List ℕ) (r : Resumed) → accepted tt ≡ checkAs false mostPorts p → GoesIs (fitTold s p) (panelIn p s) s r → ResumeIs s p r
-goes-taken s p r e g = let h = panel-taken s p e in record { judged = g .judged ∙ h; state = g .state ∙ ap (λ z. goesOn z (panelIn p s) s) h }
+pub goes-taken : (s : State) (p : List ℕ) (r : Resumed) → accepted tt ≡ checkAs false mostPorts p → GoesIs (fitTold s p) (goingOn p s) s r → ResumeIs s p r
+goes-taken s p r e g = let h = panel-taken s p e in record { judged = g .judged ∙ h; state = g .state ∙ ap (λ z. goesOn z (goingOn p s) s) h }

@@ -6,7 +6,7 @@ use mathlib.Core.List.{List}
 use Rattle.words.specs.Told.{Told, accepted}
 use Rattle.words.specs.Meaning.{refusalOf, outcomeTold}
 use Rattle.campaign_state.specs.declared.State.{State}
-use Rattle.campaign_onward.specs.Calls.{panelIn, resumeOf, goesOn}
+use Rattle.campaign_onward.specs.Calls.{goingOn, resumeOf, goesOn}
 use Rattle.campaign_onward.specs.declared.Resumed.{Resumed}
 use Rattle.campaign_onward.specs.declared.Whereabouts.{Whereabouts}
 use Rattle.campaign_onward.specs.declared.Where.{Where}
@@ -24,4 +24,4 @@ pub record GoesIs (x : Told (Unit {0})) (t s : State) (r : Resumed) : Type 0 whe
 
 -- r is what going on from s with the panel p answers and leaves
 abbrev pub ResumeIs : State → List ℕ → Resumed → Type 0
-ResumeIs s p r = GoesIs (resumeOf s p) (panelIn p s) s r
+ResumeIs s p r = GoesIs (resumeOf s p) (goingOn p s) s r

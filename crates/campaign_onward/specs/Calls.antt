@@ -3,14 +3,14 @@
 use Prim.Native.Nat.{ℕ}
 use mathlib.Core.Bool.{false, cond, _&&_}
 use mathlib.Core.List.{List}
-use lib.Dec.{eqb}
+use lib.Dec.{eqb, ltb}
 use lib.ListN.{length}
 use Rattle.listing.specs.Limits.{mostPorts}
 use Rattle.words.specs.Told.{Told, accepted, refused, nowhere, then}
 use Rattle.words.specs.Padded.{padded}
 use Rattle.pattern_check.specs.Calls.{checkAs}
 use Rattle.promise.specs.Plan.{marks}
-use Rattle.promise.specs.Campaign.{rankOf, numberOf}
+use Rattle.promise.specs.Campaign.{tick, rankOf, numberOf}
 use Rattle.plan_rules.specs.Rules.{legsOf}
 use Rattle.campaign_state.specs.State.{settingOf, momentOf}
 use Rattle.campaign_state.specs.Fitness.{fit}
@@ -48,11 +48,31 @@ withPlaces q s = record {
   errors = s .errors;
   standing = s .standing;
   ended = s .ended;
+  seat = s .seat;
 }
 
 -- with a panel put in: its ports, and 0 beyond them
 abbrev pub panelIn : List ℕ → State → State
 panelIn p s = withPlaces (padded mostPorts 0 p) s
+
+-- with its seats begun anew: a panel that is read back cannot show whether a seat was done, so where a jack is to be seated, jack 1 is the next
+abbrev pub seatsAnew : State → State
+seatsAnew s = record {
+  plan = s .plan;
+  panel = s .panel;
+  leg = s .leg;
+  step = s .step;
+  covered = s .covered;
+  opened = s .opened;
+  errors = s .errors;
+  standing = s .standing;
+  ended = s .ended;
+  seat = tick (ltb 0 (s .seat));
+}
+
+-- the state that goes on from a panel: with the panel put in, and its seats begun anew
+abbrev pub goingOn : List ℕ → State → State
+goingOn p s = seatsAnew (panelIn p s)
 
 -- 15, at no place, unless the panel has the state's ports and the state is fit with it
 unfoldable pub fitTold : State → List ℕ → Told (Unit {0})
@@ -69,4 +89,4 @@ goesOn (refused k q) t s = s
 
 -- the state that is left
 unfoldable pub resumedOf : State → List ℕ → State
-resumedOf s p = goesOn (resumeOf s p) (panelIn p s) s
+resumedOf s p = goesOn (resumeOf s p) (goingOn p s) s

@@ -19,7 +19,7 @@ ghost use Rattle.words.specs.Meaning.{refusalOf};
 ghost use Rattle.words.specs.Told.{accepted};
 ghost use Rattle.listing.specs.Limits.{mostPorts};
 ghost use Rattle.campaign_state.specs.Fitness.{fit, InPlan};
-ghost use Rattle.campaign_onward.specs.Calls.{whereOf, statusOf, panelIn, fitTold};
+ghost use Rattle.campaign_onward.specs.Calls.{whereOf, statusOf, panelIn, seatsAnew, goingOn, fitTold};
 ghost use Rattle.campaign_onward.specs.Answers.{statusTold, ResumeIs, GoesIs};
 
 // Where a campaign is: the plan's marks; the number, from 0, and the rank of the mark that stands, or else of the next, or after the end of the last; whether
@@ -38,7 +38,7 @@ pub enum Where {
     Refused(Refusal),
 }
 
-// Whether a campaign goes on from a panel, and the campaign that does: with that panel, or as it was.
+// Whether a campaign goes on from a panel, and the campaign that does: with that panel and its seats begun anew, or as it was.
 pub struct Resumed {
     pub campaign: Campaign,
     pub judged: Outcome,
@@ -62,6 +62,7 @@ fn is_fit(s: State) -> bool
         Stance::Unfit => false,
         Stance::AtMark => true,
         Stance::AtEnd => true,
+        Stance::Seat(_) => true,
         Stance::Clear => true,
         Stance::Next(_) => true,
     }
@@ -108,13 +109,27 @@ fn put_in(s: State, panel: &[u8]) -> State
         errors: s.errors,
         standing: s.standing,
         ended: s.ended,
+        seat: s.seat,
     }
 }
 
-// On a panel that is one: it goes on if it has the state's ports and the state is fit with it.
+// The state with its seats begun anew: where a jack is to be seated, jack 1 is the next.
+fn seats_anew(s: State) -> State
+    ensures { λ r. ⌜ r ≡ seatsAnew s ⌝ }
+{
+    let mut next = s;
+    if 0 < s.seat {
+        next.seat = 1;
+        return next;
+    }
+    next.seat = 0;
+    next
+}
+
+// On a panel that is one: it goes on if it has the state's ports and the state is fit with it, and its seats begin anew.
 fn on_panel(s: State, panel: &[u8]) -> Resumed
     requires { ⌜ length (now panel) ≤ mostPorts ⌝ }
-    ensures { λ r. ⌜ GoesIs (fitTold s (now (panel .entry))) (panelIn (now (panel .entry)) s) s r ⌝ }
+    ensures { λ r. ⌜ GoesIs (fitTold s (now (panel .entry))) (goingOn (now (panel .entry)) s) s r ⌝ }
 {
     let plan = s.plan;
     if panel.len() != plan.ports as usize {
@@ -123,7 +138,9 @@ fn on_panel(s: State, panel: &[u8]) -> Resumed
     let t = put_in(s, panel);
     if is_fit(t) {
         return Resumed {
-            campaign: Campaign { state: t },
+            campaign: Campaign {
+                state: seats_anew(t),
+            },
             judged: Outcome::Accepted,
         };
     }

@@ -9,11 +9,11 @@ use native.Mathlib.Omega.{arith}
 use lib.ListN.{length, length-append}
 use Rattle.listing.proofs.Numbers.{either, test}
 use Rattle.words.specs.Told.{Told, Spot, accepted, refused}
-use Rattle.words.specs.Meaning.{orderFrom}
-use Rattle.words.specs.declared.Line.the-variants.{Movement, Mark}
+use Rattle.words.specs.Meaning.{jackAt, orderFrom}
+use Rattle.words.specs.declared.Line.the-variants.{Movement, Seat, Mark}
 use Rattle.line_format.proofs.Inverse.{text-length}
 use Rattle.promise.specs.Campaign as model
-use Rattle.promise.specs.Campaign.{request, movement, mark, theEnd, taken, refusal}
+use Rattle.promise.specs.Campaign.{request, movement, seat, mark, theEnd, taken, refusal}
 use Rattle.campaign_state.specs.State.{answerText, width}
 use Rattle.campaign_state.specs.declared.State.{State}
 use Rattle.campaign.specs.Calls.{answerOf}
@@ -26,6 +26,7 @@ use Rattle.printing.specs.Answers.{stopTold, fillOf}
 -- it has a byte at least
 pub some-byte : (a : model.Answer) → more (sequel a) ≡ true → 1 ≤ width a
 some-byte (movement o) e = omega (arith, text-length (Movement (orderFrom o)))
+some-byte (seat j) e = omega (arith, text-length (Seat (jackAt j)))
 some-byte (mark k r) e = omega (arith, text-length (Mark k r))
 some-byte (theEnd k) e = absurd (true≢false (cc))
 some-byte taken e = absurd (true≢false (cc))

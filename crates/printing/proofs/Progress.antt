@@ -12,11 +12,11 @@ use lib.ListN.{length}
 use Rattle.listing.proofs.Numbers.{either, test}
 use Rattle.words.specs.Told.{Told, accepted, refused, then}
 use Rattle.promise.specs.Campaign as model
-use Rattle.promise.specs.Campaign.{Setting, Call, request, reportTo, report, movement, mark, theEnd, taken, refusal}
+use Rattle.promise.specs.Campaign.{Setting, Call, request, reportTo, report, movement, seat, mark, theEnd, taken, refusal}
 use Rattle.promise.specs.Fitness.{Fit}
 use Rattle.promise.specs.Progress.{work, bringsOn}
-use Rattle.promise.proofs.Steps.{Does, moves-on, hands-out, ends, closes, errs, refuses}
-use Rattle.promise.proofs.Progress.{work-moved, work-marked, work-closing}
+use Rattle.promise.proofs.Steps.{Does, moves-on, seats-on, hands-out, ends, closes, errs, refuses}
+use Rattle.promise.proofs.Progress.{work-moved, work-seated, work-marked, work-closing}
 use Rattle.promise.proofs.Refusals.{ran-taken}
 use Rattle.plan_rules.specs.Planned.{Planned}
 use Rattle.plans.specs.Calls.{readPlanOf}
@@ -59,9 +59,11 @@ module _ (s : State) (R : Running s) where
   -- what a call does to it, but for an error
   does-less : {c : Call} {a : model.Answer} {n : model.State} → ((o : Option ℕ) → c ≢ reportTo o 1) → bringsOn a ≡ true → Fit C n → Does C (momentOf s) c a n
       → work C n < work C (momentOf s)
-  does-less x b g (moves-on o os st en w) =
+  does-less x b g (moves-on o os st en ns w) =
       work-moved C (lawful (R .plan)) (accepts (R .plan)) (momentOf s) (R .reached .fit) o os st en w
-  does-less x b g (hands-out st en w) =
+  does-less x b g (seats-on sn) =
+      omega (arith, work-seated C (lawful (R .plan)) (accepts (R .plan)) (momentOf s) (R .reached .fit) sn)
+  does-less x b g (hands-out st en ns w) =
       work-marked C (lawful (R .plan)) (accepts (R .plan)) (momentOf s) st en w
   does-less x b g (ends en) = absurd (true≢false (sym b))
   does-less {n = n} x b g (closes {kind = kind} st cl h) =
@@ -80,6 +82,7 @@ go-less s R c x b =
 still : (C : Setting) (room : ℕ) (m : model.State) (a : model.Answer) → more (sequel a) ≡ false → model.after C (request room) a m ≡ m
 unfolding model.after
 still C room m (movement o) h = absurd (true≢false h)
+still C room m (seat j) h = absurd (true≢false h)
 still C room m (mark k r) h = absurd (true≢false h)
 still C room m (theEnd k) h = refl
 still C room m taken h = refl
@@ -87,6 +90,7 @@ still C room m (refusal k) h = refl
 
 none-ran : (a : model.Answer) → more (sequel a) ≡ false → (s : State) → asRun a s ≡ s
 none-ran (movement o) h s = refl
+none-ran (seat j) h s = refl
 none-ran (mark k r) h s = absurd (true≢false h)
 none-ran (theEnd k) h s = refl
 none-ran taken h s = refl
@@ -111,6 +115,7 @@ module _ (s : State) (R : Running s) (room : ℕ) where
   pub run-on : (a : model.Answer) → answerOf (request room) s ≡ a → more (sequel a) ≡ true
       → Running (asRun a (leftOf (request room) s)) × (toGo (asRun a (leftOf (request room) s)) < toGo s)
   run-on (movement o) e h = (running-left s R (request room), go-less s R (request room) (λ o x. true≢false (cc)) (ap bringsOn e))
+  run-on (seat j) e h = (running-left s R (request room), go-less s R (request room) (λ o x. true≢false (cc)) (ap bringsOn e))
   run-on (mark k r) e h =
       let Q = running-left s R (request room) in
       let less = go-less s R (request room) (λ o x. true≢false (cc)) (ap bringsOn e) in
@@ -136,6 +141,7 @@ module _ (s : State) (R : Running s) (room : ℕ) where
 not-more : (a : model.Answer) → more (sequel a) ≡ false → (n : ℕ) → stopTold (width a) (sequel a) ≢ accepted (n, false)
 unfolding finishes
 not-more (movement o) h n e = absurd (true≢false h)
+not-more (seat j) h n e = absurd (true≢false h)
 not-more (mark k r) h n e = absurd (true≢false h)
 not-more (theEnd k) h n e = true≢false (ap finishes e)
 not-more taken h n e = true≢false (ap finishes e)

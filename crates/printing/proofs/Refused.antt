@@ -11,7 +11,7 @@ use Rattle.listing.proofs.Numbers.{either, test}
 use Rattle.words.specs.Told.{Told, Spot, accepted, refused}
 use Rattle.words.proofs.Told.{not-both}
 use Rattle.promise.specs.Campaign as model
-use Rattle.promise.specs.Campaign.{request, movement, mark, theEnd, taken, refusal}
+use Rattle.promise.specs.Campaign.{request, movement, seat, mark, theEnd, taken, refusal}
 use Rattle.line_format.specs.Calls.{over}
 use Rattle.campaign_state.specs.State.{answerText, width}
 use Rattle.campaign_state.specs.declared.State.{State}
@@ -36,6 +36,7 @@ printTold x = stopTold (length (x .text)) (sequel (x .stop))
 -- an answer after no line that is refused
 last-refused : (a : model.Answer) {k : ℕ} {p : Spot} → stopTold (width a) (sequel a) ≡ refused k p → a ≡ refusal k
 last-refused (movement o) e = absurd (stop-taken (width (movement o)) (sequel (movement o)) (some-byte (movement o) refl) e)
+last-refused (seat j) e = absurd (stop-taken (width (seat j)) (sequel (seat j)) (some-byte (seat j) refl) e)
 last-refused (mark m r) e = absurd (stop-taken (width (mark m r)) (sequel (mark m r)) (some-byte (mark m r) refl) e)
 last-refused (theEnd m) e = absurd (not-both (sym e))
 last-refused taken e = absurd (not-both (sym e))

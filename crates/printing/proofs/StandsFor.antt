@@ -2,7 +2,7 @@
 -- for (`stands-for`, `filled-on`), so what is to come (`printed-part`) and what is to go (`printed-less`) go on as they do from state to state.
 -- Assumes nothing.
 use mathlib.Core.Path.{_≡_, refl, sym, ap, subst, _∙_}
-use mathlib.Core.Bool.{Bool, true, false, cond, and-eq-true-iff}
+use mathlib.Core.Bool.{Bool, true, false, cond, and-eq-true-iff, true≢false}
 use mathlib.Core.List.{List, [], _∷_, _++_}
 use Prim.Native.Nat.{ℕ, zero, suc, _-_, _≤_, _<_}
 use native.Mathlib.Omega.{arith}
@@ -14,8 +14,9 @@ use Rattle.listing.proofs.Numbers.{either, test}
 use Rattle.words.specs.Told.{Told, accepted, then}
 use Rattle.promise.specs.Plan.{Leg, number}
 use Rattle.promise.specs.Campaign as model
-use Rattle.promise.specs.Campaign.{Setting, request, report, placed, here, closed, tallied, ran, movement, mark, theEnd, taken, refusal}
+use Rattle.promise.specs.Campaign.{Setting, Call, request, report, placed, here, closed, tallied, ran, movement, seat, mark, theEnd, taken, refusal}
 use Rattle.promise.specs.Fitness.{Fit}
+use Rattle.promise.proofs.Steps.{Does, moves-on, seats-on, hands-out, ends, closes, errs, refuses}
 use Rattle.plan_rules.specs.Planned.{device}
 use Rattle.plan_rules.specs.Places.{heldOf, legsHeld}
 use Rattle.plan_rules.specs.Rules.{legsOf, planRuled}
@@ -25,6 +26,7 @@ use Rattle.campaign_state.specs.State.{width, settingOf, momentOf}
 use Rattle.campaign_state.specs.Fitness.{emptyFrom, placesFit}
 use Rattle.campaign_state.specs.declared.State.{State}
 use Rattle.campaign.specs.Calls.{answerOf, after, leftOf, firstState, begunOf}
+use Rattle.campaign_reached.proofs.Reached.{does-there}
 use Rattle.printing.specs.Printing.{asRun, sequel, more, Printout, onward, linesFrom, linesIn}
 use Rattle.printing.specs.Rehearsals.{rehearsalOf, stateWith, within, ranOf, stateOf}
 use Rattle.printing.specs.Answers.{filledTold, PrintedIs}
@@ -43,11 +45,12 @@ of-state r = refl
 
 -- ---- the states that rehearsals stand for
 
--- no mark stands, none was left open, and there was no error
+-- no mark stands, none was left open, there was no error and no jack is to be seated
 pub record Plain (s : State) : Type 0 where
   pub standing : s .standing ≡ false
   pub opened : s .opened ≡ 0
   pub errors : s .errors ≡ 0
+  pub seat : s .seat ≡ 0
 
 -- such a state that calls on an accepted plan leave
 pub record Rehearsing (s : State) : Type 0 where
@@ -82,6 +85,7 @@ stands-for s R =
       errors = sym (R .plain .errors) i;
       standing = sym (R .plain .standing) i;
       ended = s .ended;
+      seat = sym (R .plain .seat) i;
     }
 
 -- ---- the first one
@@ -105,41 +109,53 @@ pub begun-for : (t : List ℕ) → stateOf (rehearsalOf (begunOf t)) ≡ begunOf
 begun-for t = let p = heldOf mostLegs (readPlanOf t) in ap (λ k. stateWith k (rehearsalOf (firstState p))) (first-none p)
 
 pub rehearsing-begun : (t : List ℕ) → _≡_ {A = Told (Unit {0})} (accepted tt) (then (readPlanOf t) (λ p. accepted tt)) → Rehearsing (begunOf t)
-rehearsing-begun t e = record { running = running-begun t e; plain = record { standing = refl; opened = refl; errors = refl } }
+rehearsing-begun t e = record { running = running-begun t e; plain = record { standing = refl; opened = refl; errors = refl; seat = refl } }
 
 -- ---- from line to line
 
 -- closing a mark leaves the other counts
 closed-keeps : (C : Setting) (m : model.State)
-    → (closed C m .standing ≡ false) × (closed C m .opened ≡ m .opened) × (closed C m .errors ≡ m .errors)
+    → (closed C m .standing ≡ false) × (closed C m .opened ≡ m .opened) × (closed C m .errors ≡ m .errors) × (closed C m .toSeat ≡ m .toSeat)
 unfolding closed
 closed-keeps C m = by (ltb (m .step) (here C m .run)) (ltb (suc (m .leg)) (length (C .legs)))
   where
     by : (a b : Bool)
         → let n = cond a (placed (m .leg) (suc (m .step)) false m) (cond b (placed (suc (m .leg)) 0 false m) (placed (m .leg) (m .step) true m)) in
-        (n .standing ≡ false) × (n .opened ≡ m .opened) × (n .errors ≡ m .errors)
-    by true b = (refl, refl, refl)
-    by false true = (refl, refl, refl)
-    by false false = (refl, refl, refl)
+        (n .standing ≡ false) × (n .opened ≡ m .opened) × (n .errors ≡ m .errors) × (n .toSeat ≡ m .toSeat)
+    by true b = (refl, refl, refl, refl)
+    by false true = (refl, refl, refl, refl)
+    by false false = (refl, refl, refl, refl)
 
 -- a mark reported as run leaves them
-ran-keeps : (s : State) → s .opened ≡ 0 → s .errors ≡ 0 → answerOf (report 0) s ≡ taken → Plain (leftOf (report 0) s)
+ran-keeps : (s : State) → s .opened ≡ 0 → s .errors ≡ 0 → s .seat ≡ 0 → answerOf (report 0) s ≡ taken → Plain (leftOf (report 0) s)
 unfolding leftOf model.after model.heard
-ran-keeps s o r e =
+ran-keeps s o r n e =
     let k = closed-keeps (settingOf s) (tallied ran (momentOf s)) in
     let same : leftOf (report 0) s ≡ after (report 0) taken s = ap (λ a. after (report 0) a s) e in
-    subst Plain (sym same) (record { standing = k .0; opened = omega (arith, k .1, o); errors = omega (arith, k .2, r) })
+    subst Plain (sym same) (record { standing = k .0; opened = omega (arith, k .1, o); errors = omega (arith, k .2, r); seat = k .3 ∙ n })
 
--- a request leaves them, and what stands after it is reported as run
+-- a seat is given only where a jack is to be seated
+seat-given : {C : Setting} {m n : model.State} {c : Call} {a : model.Answer} → Does C m c a n → (j : ℕ) → a ≡ seat j → 0 < m .toSeat
+seat-given (moves-on o os st en ns w) j e = absurd (true≢false (cc))
+seat-given (seats-on sn) j e = sn
+seat-given (hands-out st en ns w) j e = absurd (true≢false (cc))
+seat-given (ends en) j e = absurd (true≢false (cc))
+seat-given (closes st cl x) j e = absurd (true≢false (cc))
+seat-given (errs st lt) j e = absurd (true≢false (cc))
+seat-given (refuses k n) j e = absurd (true≢false (cc))
+
+-- a request leaves them, and what stands after it is reported as run: where no jack is to be seated it gives no seat
 on-plain : (s : State) → Running s → Plain s → (room : ℕ) (a : model.Answer) → answerOf (request room) s ≡ a → Plain (asRun a (leftOf (request room) s))
 unfolding leftOf model.after
-on-plain s R P room (movement o) e = subst Plain (ap (λ a. after (request room) a s) (sym e)) (record { standing = P .standing; opened = P .opened; errors = P .errors })
+on-plain s R P room (movement o) e = subst Plain (ap (λ a. after (request room) a s) (sym e)) (record { standing = P .standing; opened = P .opened; errors = P .errors; seat = P .seat })
+on-plain s R P room (seat j) e = absurd (omega (arith, P .seat, seat-given (does-there (R .plan) s (R .reached) (request room)) j e))
 on-plain s R P room (mark k r) e =
     let same : leftOf (request room) s ≡ after (request room) (mark k r) s = ap (λ a. after (request room) a s) e in
-    ran-keeps (leftOf (request room) s) (ap (λ x. x .opened) same ∙ P .opened) (ap (λ x. x .errors) same ∙ P .errors) (mark-taken s R room k r e)
-on-plain s R P room (theEnd k) e = subst Plain (ap (λ a. after (request room) a s) (sym e)) (record { standing = P .standing; opened = P .opened; errors = P .errors })
-on-plain s R P room taken e = subst Plain (ap (λ a. after (request room) a s) (sym e)) (record { standing = P .standing; opened = P .opened; errors = P .errors })
-on-plain s R P room (refusal k) e = subst Plain (ap (λ a. after (request room) a s) (sym e)) (record { standing = P .standing; opened = P .opened; errors = P .errors })
+    ran-keeps (leftOf (request room) s) (ap (λ x. x .opened) same ∙ P .opened) (ap (λ x. x .errors) same ∙ P .errors) (ap (λ x. x .seat) same ∙ P .seat)
+    (mark-taken s R room k r e)
+on-plain s R P room (theEnd k) e = subst Plain (ap (λ a. after (request room) a s) (sym e)) (record { standing = P .standing; opened = P .opened; errors = P .errors; seat = P .seat })
+on-plain s R P room taken e = subst Plain (ap (λ a. after (request room) a s) (sym e)) (record { standing = P .standing; opened = P .opened; errors = P .errors; seat = P .seat })
+on-plain s R P room (refusal k) e = subst Plain (ap (λ a. after (request room) a s) (sym e)) (record { standing = P .standing; opened = P .opened; errors = P .errors; seat = P .seat })
 
 lines-plain : (k room : ℕ) (s : State) → Running s → Plain s → Plain (linesFrom k room s .left)
 unfolding linesFrom

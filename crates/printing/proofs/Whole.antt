@@ -10,7 +10,7 @@ use Rattle.listing.proofs.Numbers.{either, test}
 use Rattle.words.specs.Told.{Told, Spot, accepted, refused}
 use Rattle.words.proofs.Told.{not-both}
 use Rattle.promise.specs.Campaign as model
-use Rattle.promise.specs.Campaign.{Call, request, movement, mark, theEnd, taken, refusal}
+use Rattle.promise.specs.Campaign.{Call, request, movement, seat, mark, theEnd, taken, refusal}
 use Rattle.promise.proofs.Refusals.{Answered, refused as why-refused, given, answered-so, served}
 use Rattle.campaign_state.specs.State.{answerText, width, momentOf}
 use Rattle.campaign_state.specs.declared.State.{State}
@@ -102,6 +102,7 @@ refused-still room s k e =
 
 sequel-refused : (a : model.Answer) (k : ℕ) {p : Spot} → sequel a ≡ refused k p → a ≡ refusal k
 sequel-refused (movement o) k e = absurd (not-both (sym e))
+sequel-refused (seat j) k e = absurd (not-both (sym e))
 sequel-refused (mark j r) k e = absurd (not-both (sym e))
 sequel-refused (theEnd j) k e = absurd (not-both (sym e))
 sequel-refused taken k e = absurd (not-both (sym e))

@@ -6,7 +6,7 @@ use mathlib.Core.Bool.{Bool, true, false, cond}
 use mathlib.Core.List.{List, [], _++_}
 use Rattle.words.specs.Told.{Told, accepted, refused, nowhere}
 use Rattle.promise.specs.Campaign as model
-use Rattle.promise.specs.Campaign.{request, report, movement, mark, theEnd, taken, refusal}
+use Rattle.promise.specs.Campaign.{request, report, movement, seat, mark, theEnd, taken, refusal}
 use Rattle.campaign_state.specs.State.{answerText, width}
 use Rattle.campaign_state.specs.declared.State.{State}
 use Rattle.campaign.specs.Calls.{answerOf, leftOf}
@@ -14,14 +14,16 @@ use Rattle.campaign.specs.Calls.{answerOf, leftOf}
 -- a mark that was handed out is reported as run; after any other answer there is nothing to report
 abbrev pub asRun : model.Answer → State → State
 asRun (movement o) s = s
+asRun (seat j) s = s
 asRun (mark k r) s = leftOf (report 0) s
 asRun (theEnd k) s = s
 asRun taken s = s
 asRun (refusal k) s = s
 
--- what follows an answer: lines after a movement or a mark (true), none after the end (false), or the refusal is told
+-- what follows an answer: lines after a movement, a seat or a mark (true), none after the end (false), or the refusal is told
 abbrev pub sequel : model.Answer → Told Bool
 sequel (movement o) = accepted true
+sequel (seat j) = accepted true
 sequel (mark k r) = accepted true
 sequel (theEnd k) = accepted false
 sequel taken = accepted false

@@ -11,11 +11,11 @@ use Rattle.campaign_state.specs.State.{settingOf, momentOf}
 use Rattle.campaign_state.specs.declared.State.{State}
 use Rattle.printing.specs.declared.Rehearsal.{Rehearsal}
 
--- what a rehearsal keeps of a state: all but the counts, and whether a mark stands
+-- what a rehearsal keeps of a state: all but the counts, whether a mark stands, and the jack to seat
 abbrev pub rehearsalOf : State → Rehearsal
 rehearsalOf s = record { plan = s .plan; panel = s .panel; leg = s .leg; step = s .step; ended = s .ended }
 
--- the state at a rehearsal's moment with so many marks covered, none open, no error and no mark standing
+-- the state at a rehearsal's moment with so many marks covered, none open, no error, no mark standing and no jack to seat
 abbrev pub stateWith : ℕ → Rehearsal → State
 stateWith covered r = record {
   plan = r .plan;
@@ -27,6 +27,7 @@ stateWith covered r = record {
   errors = 0;
   standing = false;
   ended = r .ended;
+  seat = 0;
 }
 
 -- whether plan, leg and step are within the rules

@@ -85,6 +85,11 @@ fn request_line(c: Campaign, buf: &mut [u8], at: usize) -> Given
             at: after,
             sequel: Sequel::More,
         },
+        Answer::Seat(_) => Given {
+            campaign: next,
+            at: after,
+            sequel: Sequel::More,
+        },
         Answer::Mark(_, _) => {
             let reported = next.report(RAN);
             let ran = reported.campaign;

@@ -57,5 +57,6 @@ pub fn state_of(r: Rehearsal) -> State
         errors: 0,
         standing: false,
         ended: r.ended,
+        seat: 0,
     }
 }

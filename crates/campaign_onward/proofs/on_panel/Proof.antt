@@ -1,4 +1,4 @@
--- `campaign_onward::on_panel`: 15 for a panel of other ports or a state that is not fit with it; else the state with the panel put in.
+-- `campaign_onward::on_panel`: 15 for a panel of other ports or a state that is not fit with it; else the state with the panel put in, its seats begun anew.
 -- Assumes nothing.
 use mathlib.Core.Path.{sym, ap, _∙_}
 use borrow.Author.Needs.{needs}
@@ -13,8 +13,9 @@ returns c = stays-told _ _ (c .before .nowhere .result) _ _ (ap refusalOf (c .be
 
 returns-2 : tie.Need-returns-2
 returns-2 c =
-    let t = c .before .before in
-    goes-at _ _ _ (t .put-in .ensures) (t .before .if1 .left) (sym (c .if2 .taken) ∙ c .before .is-fit .ensures)
+    let f = c .before in
+    let t = f .before .before in
+    goes-at _ _ _ _ (t .put-in .ensures) (c .seats-anew .ensures) (t .before .if1 .left) (sym (f .if2 .taken) ∙ f .before .is-fit .ensures)
 
 returns-3 : tie.Need-returns-3
 returns-3 c =
@@ -32,6 +33,7 @@ on-panel-spec =
     (λ c κs. search needs)
     (λ c κs. search needs)
     returns
+    (λ c κs. search needs)
     (λ c κs. search needs)
     (λ c κs. search needs)
     returns-2

@@ -32,26 +32,36 @@ returns c =
 
 returns-2 : tie.Need-returns-2
 returns-2 c =
-    let w = c .before .before .before .before .before .before .before .before in
+    let w = c .before .before .before .before .before .before in
     let s = w .before .before .before in
     let R = part-asked (s .args .c .state) (s .args .buf .now) (s .args .at) (s .pre) (w .request .result) (w .request .ensures .0) in
-    let e = told-given _ (sym (R .answer) ∙ ap answerTold (c .before .before .enum-told2 .given .1)) in (
-      given-as (s .args .c .state) (s .args .buf .now) (s .args .at) (s .pre) _ (w .request .result) _ R e refl (left-so _ _ (c .before .report .ensures .state)) refl,
+    let e = told-given _ (sym (R .answer) ∙ ap answerTold (c .enum-told2 .given .1)) in (
+      given-as (s .args .c .state) (s .args .buf .now) (s .args .at) (s .pre) _ (w .request .result) _ R e refl refl refl,
       part-bytes (s .args .c .state) (s .args .buf .now) (s .args .at) (s .pre) _ (w .request .ensures .1),
     )
 
 returns-3 : tie.Need-returns-3
 returns-3 c =
-    let w = c .before .before .before .before .before .before in
+    let w = c .before .before .before .before .before .before .before .before in
     let s = w .before .before .before in
     let R = part-asked (s .args .c .state) (s .args .buf .now) (s .args .at) (s .pre) (w .request .result) (w .request .ensures .0) in
-    let e = told-given _ (sym (R .answer) ∙ ap answerTold (c .enum-told3 .given .1)) in (
-      given-as (s .args .c .state) (s .args .buf .now) (s .args .at) (s .pre) _ (w .request .result) _ R e refl refl refl,
+    let e = told-given _ (sym (R .answer) ∙ ap answerTold (c .before .before .enum-told3 .given .1)) in (
+      given-as (s .args .c .state) (s .args .buf .now) (s .args .at) (s .pre) _ (w .request .result) _ R e refl (left-so _ _ (c .before .report .ensures .state)) refl,
       part-bytes (s .args .c .state) (s .args .buf .now) (s .args .at) (s .pre) _ (w .request .ensures .1),
     )
 
 returns-4 : tie.Need-returns-4
 returns-4 c =
+    let w = c .before .before .before .before .before .before in
+    let s = w .before .before .before in
+    let R = part-asked (s .args .c .state) (s .args .buf .now) (s .args .at) (s .pre) (w .request .result) (w .request .ensures .0) in
+    let e = told-given _ (sym (R .answer) ∙ ap answerTold (c .enum-told4 .given .1)) in (
+      given-as (s .args .c .state) (s .args .buf .now) (s .args .at) (s .pre) _ (w .request .result) _ R e refl refl refl,
+      part-bytes (s .args .c .state) (s .args .buf .now) (s .args .at) (s .pre) _ (w .request .ensures .1),
+    )
+
+returns-5 : tie.Need-returns-5
+returns-5 c =
     let w = c .before .before .before .before .before .before .before in
     let s = w .before .before .before in
     let R = part-asked (s .args .c .state) (s .args .buf .now) (s .args .at) (s .pre) (w .request .result) (w .request .ensures .0) in
@@ -72,6 +82,7 @@ request-line-spec =
     add-after
     (λ c. search needs)
     (λ c. search needs)
+    (λ c. search needs)
     (λ c κs. search needs)
     (λ c. search needs)
     (λ c. search needs)
@@ -82,4 +93,6 @@ request-line-spec =
     (λ c. search needs)
     returns-3
     (λ c. search needs)
-    returns-4)
+    returns-4
+    (λ c. search needs)
+    returns-5)
