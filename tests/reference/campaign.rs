@@ -18,6 +18,8 @@ pub struct State {
     pub errors: u128,
     pub standing: bool,
     pub ended: bool,
+    /// The next jack to seat, 0 for none.
+    pub seat: u64,
 }
 
 /// Where a campaign is.
@@ -25,7 +27,8 @@ pub struct State {
 pub struct Status {
     /// The plan's marks.
     pub marks: u128,
-    /// The number, from 0 over the whole plan, and the rank of the standing mark, else of the next, after the end of the last.
+    /// The number, from 0 over the whole plan, and the rank of the standing mark, else of the next, after the end of the last. While jacks are seated the next
+    /// is the one that comes again.
     pub number: u128,
     pub rank: u128,
     pub standing: bool,
@@ -45,14 +48,15 @@ pub const OPEN: usize = 57;
 pub const ERRORS: usize = 58;
 pub const STANDING: usize = 59;
 pub const ENDED: usize = 60;
-pub const WORDS: usize = 61;
+pub const SEAT: usize = 61;
+pub const WORDS: usize = 62;
 
 impl State {
-    /// 'Panel at home, leg, step and counts 0, no mark standing, end not shown.' Home is (2,3,..,n,1).
+    /// 'Panel at home, leg, step and counts 0, no mark standing, end not shown', and no jack to seat. Home is (2,3,..,n,1).
     pub fn first(plan: Plan) -> State {
         let mut panel: Vec<u8> = (2..=plan.ports as u8).collect();
         panel.push(1);
-        State { plan, panel, leg: 0, step: 0, covered: 0, open: 0, errors: 0, standing: false, ended: false }
+        State { plan, panel, leg: 0, step: 0, covered: 0, open: 0, errors: 0, standing: false, ended: false, seat: 0 }
     }
 
     pub fn to_words(&self) -> [u64; WORDS] {
@@ -65,6 +69,7 @@ impl State {
         words[ERRORS] = self.errors as u64;
         words[STANDING] = self.standing.into();
         words[ENDED] = self.ended.into();
+        words[SEAT] = self.seat;
         words
     }
 
@@ -73,7 +78,7 @@ impl State {
         State::read(words).filter(State::is_fit).ok_or(refusal(15))
     }
 
-    /// The words as a state: none where there are not 61 of them, a word is one that its field cannot hold, or an unused place is not 0.
+    /// The words as a state: none where there are not 62 of them, a word is one that its field cannot hold, or an unused place is not 0.
     fn read(words: &[u64]) -> Option<State> {
         if words.len() != WORDS {
             return None;
@@ -89,6 +94,7 @@ impl State {
             errors: words[ERRORS].into(),
             standing: flag(words[STANDING])?,
             ended: flag(words[ENDED])?,
+            seat: u8::try_from(words[SEAT]).ok()?.into(),
         })
     }
 
@@ -103,7 +109,7 @@ impl State {
         State::read(&bare).ok_or(refusal(15))
     }
 
-    /// Row 15 of the paper's table, in its order.
+    /// Row 15 of the paper's table, in its order, and what the jacks to seat add to it: 'a seat number above n, or seating while a mark stands, at the end'.
     fn is_fit(&self) -> bool {
         let State { plan, leg, step, .. } = self;
         if !within_rules(plan, *leg, *step) || check_panel(&self.panel).is_err() || !self.panel_as_said() {
@@ -112,13 +118,20 @@ impl State {
         if self.ended && (self.standing || !plan.is_last(*leg, *step)) {
             return false;
         }
+        if self.seat > plan.ports as u64 || (self.seating() && (self.standing || self.ended)) {
+            return false;
+        }
         let closed = if self.ended { plan.marks() } else { plan.number(*leg, *step) };
         self.covered + self.open == closed && self.errors <= MOST_ERRORS
     }
 
-    /// 'For 15 the panel must be: the mark's pattern while a mark stands; .. after the end, the last mark's pattern.'
+    fn seating(&self) -> bool {
+        self.seat != 0
+    }
+
+    /// 'For 15 the panel must be: the mark's pattern while a mark stands; .. after the end, the last mark's pattern.' While seating it is the mark's too.
     fn panel_as_said(&self) -> bool {
-        if self.standing || self.ended {
+        if self.standing || self.ended || self.seating() {
             return self.panel == self.plan.pattern(self.leg, self.step);
         }
         may_stand(&self.plan, &self.panel, self.leg, self.step)
@@ -128,6 +141,9 @@ impl State {
     fn next_line(&self) -> Line {
         if self.ended {
             return Line::End(self.plan.marks() as u64);
+        }
+        if self.seating() {
+            return Line::Seat(self.seat);
         }
         let mark = || Line::Mark(self.plan.number(self.leg, self.step) as u64, self.plan.rank(self.leg, self.step) as u64);
         order_towards(&self.plan, &self.panel, self.leg, self.step).unwrap_or_else(mark)
@@ -151,7 +167,11 @@ impl State {
         }
         let mut after = self.clone();
         obey(&mut after.panel, line);
-        after.standing = matches!(line, Line::Mark(..));
+        match line {
+            Line::Mark(..) => after.standing = true,
+            Line::Seat(j) => after.seat = if j == self.plan.ports as u64 { 0 } else { j + 1 },
+            _ => {}
+        }
         Ok((line, after))
     }
 
@@ -170,7 +190,8 @@ impl State {
             1 if self.errors == MOST_ERRORS => return Err(refusal(16)),
             1 => {
                 after.errors += 1;
-                return Ok(after); // the same mark is what the next request gives
+                after.seat = 1;
+                return Ok(after); // leg and step stay: after the seats the same mark comes again
             }
             _ => after.open += 1,
         }
@@ -198,15 +219,14 @@ impl State {
     }
 
     /// Going on after a power cut: the state with the panel as it was read back put in. The panel's own refusals first; then 15 for a panel of other ports than
-    /// the state's, and for a state that is unfit with that panel.
+    /// the state's, and for a state that is unfit with that panel. No panel shows which jacks were seated, so the seats start anew.
     pub fn resume(&self, panel: &[u8]) -> Result<State, Refusal> {
         check_panel(panel)?;
         let after = State { panel: panel.to_vec(), ..self.clone() };
-        if panel.len() == self.plan.ports && after.is_fit() {
-            Ok(after)
-        } else {
-            Err(refusal(15))
+        if panel.len() != self.plan.ports || !after.is_fit() {
+            return Err(refusal(15));
         }
+        Ok(State { seat: self.seat.min(1), ..after })
     }
 }
 

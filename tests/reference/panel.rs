@@ -18,7 +18,7 @@ pub fn jack_of(panel: &[u8], port: u8) -> Result<u8, Refusal> {
     Ok(j as u8 + 1)
 }
 
-/// 'The panel takes any permutation of 1 to n. Mark and end leave it as it is.' No line at all stands for one of no kind: out of shape.
+/// 'The panel takes any permutation of 1 to n. Mark and end leave it as it is', and so does a seat. No line at all stands for one of no kind: out of shape.
 pub fn carry(panel: &mut [u8], line: Option<Line>) -> Result<(), Refusal> {
     check_panel(panel)?;
     let line = line.filter(|line| line.in_shape(panel.len() as u64)).ok_or(refusal(17))?;
@@ -31,7 +31,7 @@ pub fn obey(panel: &mut [u8], line: Line) {
     match line {
         Line::Swap(a, b) => apply(Move::Swap(a as u8, b as u8), panel),
         Line::Turn(a, b, c) => apply(Move::Turn(a as u8, b as u8, c as u8), panel),
-        Line::Mark(..) | Line::End(_) => {}
+        Line::Mark(..) | Line::End(_) | Line::Seat(_) => {}
     }
 }
 

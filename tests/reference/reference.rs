@@ -1,4 +1,4 @@
-//! The reference: Jidrofex in plain Rust, written from the paper and document 000 and from nothing else. The proved library is held to it.
+//! The reference: Jidrofex in plain Rust, written from the paper, document 000 and the later requests, and from nothing else. The proved library is held to it.
 //! Clarity comes first here: vectors, wide integers and recursion wherever they make a sentence of the paper plain.
 //!
 //! - `list`: the list of patterns, check, count, rank, unrank, next, previous, the signed step
@@ -30,7 +30,7 @@ pub mod text;
 pub mod told;
 
 /// The version of include/jidrofex.h that this is the reference of.
-pub const VERSION: u64 = 4;
+pub const VERSION: u64 = 5;
 
 pub const MOST_PORTS: usize = 20;
 pub const MOST_LEGS: usize = 16;

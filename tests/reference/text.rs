@@ -9,6 +9,7 @@ pub enum Line {
     Turn(u64, u64, u64),
     Mark(u64, u64),
     End(u64),
+    Seat(u64),
 }
 
 impl Line {
@@ -18,6 +19,7 @@ impl Line {
         match self {
             Line::Swap(a, b) => jack(a) && jack(b) && a < b,
             Line::Turn(a, b, c) => jack(a) && jack(b) && jack(c) && a < b && a < c && b != c,
+            Line::Seat(j) => jack(j),
             Line::Mark(..) | Line::End(_) => true,
         }
     }
@@ -29,6 +31,7 @@ impl Line {
             Line::Turn(a, b, c) => format!("turn={a},{b},{c}\n"),
             Line::Mark(number, rank) => format!("mark={number},{rank}\n"),
             Line::End(marks) => format!("end={marks}\n"),
+            Line::Seat(j) => format!("seat={j}\n"),
         }
         .into_bytes()
     }
@@ -123,7 +126,7 @@ pub fn refusal_sentence(of: Refusal, buffer: &mut [u8]) -> Result<usize, Refusal
 pub fn read_line(text: &[u8], place: usize) -> Result<(Line, usize), Refusal> {
     let rest = text.get(place..).unwrap_or(&[]);
     let end = rest.iter().position(|&byte| byte == b'\n').ok_or(refusal(11))?;
-    let keys: [&[u8]; 4] = [b"swap=", b"turn=", b"mark=", b"end="];
+    let keys: [&[u8]; 5] = [b"swap=", b"turn=", b"mark=", b"end=", b"seat="];
     let key = keys.into_iter().find(|key| rest[..end].starts_with(key)).ok_or(refusal(7))?;
     let numbers: Option<Vec<u64>> = rest[key.len()..end].split(|&byte| byte == b',').map(number).collect();
     let line = match (key, numbers.as_deref()) {
@@ -131,6 +134,7 @@ pub fn read_line(text: &[u8], place: usize) -> Result<(Line, usize), Refusal> {
         (b"turn=", Some(&[a, b, c])) => Line::Turn(a, b, c),
         (b"mark=", Some(&[number, rank])) => Line::Mark(number, rank),
         (b"end=", Some(&[marks])) => Line::End(marks),
+        (b"seat=", Some(&[j])) => Line::Seat(j),
         _ => return Err(refusal(8)),
     };
     if !line.in_shape(MOST_PORTS as u64) {

@@ -49,6 +49,7 @@ fn line_words(line: Line, last: usize) -> Answer {
         Line::Turn(a, b, c) => [2, a, b, c, last],
         Line::Mark(number, rank) => [3, number, rank, 0, last],
         Line::End(marks) => [4, marks, 0, 0, last],
+        Line::Seat(j) => [6, j, 0, 0, last],
     }
 }
 
@@ -60,6 +61,7 @@ fn line_of(words: &[u64; 4]) -> Option<Line> {
         2 => Some(Line::Turn(a, b, c)),
         3 => Some(Line::Mark(a, b)),
         4 => Some(Line::End(a)),
+        6 => Some(Line::Seat(a)),
         _ => None,
     }
 }
