@@ -18,7 +18,7 @@ fn words_of(number: u8) -> Vec<u8> {
 /// The version and the words of refusals, as the header has them.
 pub fn library(compared: &mut Compared) {
     let mut answer = [7; 5];
-    compared.same("the version", (told::version(&mut answer), answer), (0, [4, 0, 0, 0, 0]));
+    compared.same("the version", (told::version(&mut answer), answer), (0, [5, 0, 0, 0, 0]));
     let said: [(u8, &[u8]); 6] = [
         (0, b"accepted"),
         (2, b"does not fit the buffer"),
@@ -124,6 +124,10 @@ pub fn status(compared: &mut Compared) {
         (request, [5, 1, 1, 0, 0]), // turn=1,2,3
         (request, [5, 1, 1, 1, 0]), // mark=1,1
         (error, [5, 1, 1, 0, 0]),
+        (request, [5, 1, 1, 0, 0]), // seat=1
+        (request, [5, 1, 1, 0, 0]), // seat=2
+        (request, [5, 1, 1, 0, 0]), // seat=3
+        (request, [5, 1, 1, 0, 0]), // seat=4
         (request, [5, 1, 1, 1, 0]), // mark=1,1
         (ran, [5, 2, 2, 0, 0]),
         (request, [5, 2, 2, 0, 0]), // swap=1,2
@@ -142,7 +146,7 @@ pub fn status(compared: &mut Compared) {
         call(&mut state, made);
         asked("along the way", &state, 0, wanted);
     }
-    asked("60 words", &state[..60], 15, [0; 5]);
+    asked("61 words", &state[..61], 15, [0; 5]);
     asked("no words", &[], 15, [0; 5]);
     state[COVERED] += 1;
     asked("a count that is not so", &state, 15, [0; 5]);
@@ -186,7 +190,7 @@ pub fn report_refusals(compared: &mut Compared) {
     for mark in [0, 1] {
         reported(compared, "a kind above 2", &standing, (mark, 3), 14);
         reported(compared, "the last kind of a byte", &standing, (mark, 255), 14);
-        reported(compared, "60 words", &standing[..60], (mark, 3), 15);
+        reported(compared, "61 words", &standing[..61], (mark, 3), 15);
         reported(compared, "an unfit state", &unfit, (mark, 3), 15);
     }
     let mut limit = standing;
@@ -210,6 +214,13 @@ pub fn sent_twice(compared: &mut Compared) {
     compared.same("covered after the report again: by its number, and by a plain report", (again[COVERED], plain[COVERED]), (1, 2));
     let error = reported(compared, "an error at mark 1", &state, (1, 1), 0);
     reported(compared, "none stands after an error", &error, (1, 1), 12);
+    let mut seating = error;
+    for kind in [0, 1, 2, 3] {
+        call(&mut seating, None);
+        reported(compared, "nor after a seat", &seating, (1, kind), if kind > 2 { 14 } else { 12 });
+    }
+    call(&mut seating, None);
+    reported(compared, "the same mark, after the seats", &seating, (1, 0), 0);
     // marks are numbered over the whole plan: at step 0 of the second leg stands mark 3
     let next_mark = |closed: &[u64]| at_mark(&State::from_words(closed).expect("a fit state"));
     let state = reported(compared, "mark 1 ran", &state, (1, 0), 0);

@@ -29,7 +29,7 @@ pub fn campaign(compared: &mut Compared) {
     compared.same("ran", counts(&ran), (1, 0, 0, 0, 1, false));
     compared.same("error", counts(&error), (0, 0, 1, 0, 0, false));
     compared.same("gave up", counts(&gave_up), (0, 1, 0, 0, 1, false));
-    compared.same("the same mark after an error", error.request(45).map(|given| given.0), Ok(Line::Mark(0, 0)));
+    compared.same("the next jack to seat", [&first, &mark, &ran, &error, &gave_up].map(|state| state.seat), [0, 0, 0, 1, 0]);
     let limit = State { errors: 65_535, ..mark.clone() };
     compared.same("an error at the limit", limit.report(1), refused(16, 0));
     compared.same("closed at the limit", limit.report(2).map(|after| counts(&after)), Ok((0, 1, 65_535, 0, 1, false)));
@@ -43,26 +43,27 @@ pub fn campaign(compared: &mut Compared) {
     compared.same("a report after the end", state.report(0), refused(12, 0));
 
     // the first state in words, typed from the paper and the header, and one word away from it
-    let mut words = [0; 61];
+    let mut words = [0; 62];
     for (place, word) in [(0, 4), (1, 2), (3, 8), (18, 2), (19, u64::MAX), (34, 2), (35, 3), (36, 4), (37, 1)] {
         words[place] = word;
     }
     compared.same("the first state in words", first.to_words(), words);
     let unfit = [
         (0, 1), (0, 21), (1, 0), (1, 17), (2, 9), (4, 1), (18, 9), (20, 1), (34, 3), (38, 1), (54, 2), (54, 1), (55, 3), (55, 1), (56, 1), (57, 1),
-        (58, 65_536), (59, 2), (60, 1),
+        (58, 65_536), (59, 2), (60, 1), (61, 5), (61, 256),
     ];
     for (place, word) in unfit {
         let mut changed = words;
         changed[place] = word;
         compared.same("an unfit state", State::from_words(&changed), refused(15, 0));
     }
-    for (place, word) in [(2, 8), (18, -8i64 as u64), (58, 65_535), (59, 1)] {
+    for (place, word) in [(2, 8), (18, -8i64 as u64), (58, 65_535), (59, 1), (61, 1), (61, 4)] {
         let mut changed = words;
         changed[place] = word;
         compared.same("a fit state", State::from_words(&changed).map(|_| ()), Ok(()));
     }
-    compared.same("60 words", State::from_words(&words[..60]), refused(15, 0));
+    compared.same("61 words", State::from_words(&words[..61]), refused(15, 0));
+    compared.same("63 words", State::from_words(&[&words[..], &[0]].concat()), refused(15, 0));
 }
 
 /// Going on after a power cut, on the paper's plan: what the panel may be at each moment, and the refusals in their order.
@@ -136,13 +137,18 @@ fn resumed_words(state: &State, compared: &mut Compared) {
     let lost = changed(&[(34, 0), (35, 255), (36, 1), (37, 1), (38, 5), (53, 20)]);
     resume("a saved panel that is none", &lost, &not_obeyed, (0, NOWHERE), &back);
     resume("a saved panel that is none, another panel", &lost, &pattern("2143"), (15, NOWHERE), &lost);
-    // ports, legs, a start, a run, a place beyond the legs, a word of the panel above a byte, leg, step, each count, standing, the end
-    for change in [(0, 5), (1, 1 << 32), (2, 9), (18, 9), (20, 1), (34, 256), (53, 256), (54, 2), (55, 2), (56, 2), (57, 1), (58, 65_536), (59, 2), (60, 1)] {
+    // ports, legs, a start, a run, a place beyond the legs, a word of the panel above a byte, leg, step, each count, standing, the end, a seat off the mark's
+    // pattern, above the ports and above a byte
+    let changes = [
+        (0, 5), (1, 1 << 32), (2, 9), (18, 9), (20, 1), (34, 256), (53, 256), (54, 2), (55, 2), (56, 2), (57, 1), (58, 65_536), (59, 2), (60, 1), (61, 1),
+        (61, 5), (61, 256),
+    ];
+    for change in changes {
         let unfit = changed(&[change]);
         resume("an unfit state", &unfit, &not_obeyed, (15, NOWHERE), &unfit);
         resume("the panel before the state", &unfit, &[4, 4, 2, 1], (4, [2, 1]), &unfit);
     }
-    resume("60 words", &words[..60], &not_obeyed, (15, NOWHERE), &words[..60]);
+    resume("61 words", &words[..61], &not_obeyed, (15, NOWHERE), &words[..61]);
     resume("no words", &[], &not_obeyed, (15, NOWHERE), &[]);
     resume("no words and no panel", &[], &[], (1, NOWHERE), &[]);
     resume("21 ports", &words, &[1; 21], (1, NOWHERE), &words);

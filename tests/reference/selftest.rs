@@ -1,7 +1,8 @@
 //! The reference held to what is printed: document 000's tables for 4 and 5 ports, the paper's 'Cases to prove' and 'To run', the paper's example;
-//! to the rules of a campaign, the header's words for controllers, both jacks of a repeated entry for every pair of jacks, and demand three on full
-//! circuits; to what plans name, worked by hand, and to dictionary numbers counted by hand; and to itself: three ways to the list (the definition, the
-//! procedures, the relations) over every circuit of 2 to 8 ports, two ways to the gaps of a plan, and dictionary numbers by counting and by a list.
+//! to the rules of a campaign, the seats after an error, the header's words for controllers, both jacks of a repeated entry for every pair of jacks, and
+//! demand three on full circuits; to what plans name, worked by hand, and to dictionary numbers counted by hand; and to itself: three ways to the list (the
+//! definition, the procedures, the relations) over every circuit of 2 to 8 ports, two ways to the gaps of a plan, and dictionary numbers by counting and by a
+//! list.
 //! Ends in a line with the number of comparisons, or in the first one that does not hold.
 
 mod controllers;
@@ -9,6 +10,7 @@ mod gaps;
 mod jacks;
 mod numbers;
 mod rules;
+mod seats;
 mod tables;
 
 use reference::campaign::State;
@@ -139,7 +141,7 @@ fn order_lines(compared: &mut Compared) {
     }
     compared.same("a place past the end", read_line(b"end=5\n", usize::MAX), refused(11, 0));
     compared.same("a place at the end", read_line(b"end=5\n", 6), refused(11, 0));
-    let lines = [Line::Swap(1, 20), Line::Turn(1, 3, 2), Line::Mark(u64::MAX, 0), Line::End(u64::MAX)];
+    let lines = [Line::Swap(1, 20), Line::Turn(1, 3, 2), Line::Mark(u64::MAX, 0), Line::End(u64::MAX), Line::Seat(1), Line::Seat(20)];
     for line in lines {
         let mut buffer = [7; 60];
         let bytes = write_line(Some(line), &mut buffer).expect("the line fits");
@@ -209,6 +211,12 @@ fn main() {
     order_lines(&mut compared);
     rules::campaign(&mut compared);
     rules::power_cuts(&mut compared);
+    seats::lines(&mut compared);
+    seats::after_errors(&mut compared);
+    seats::refusals(&mut compared);
+    seats::fitness(&mut compared);
+    seats::resumed(&mut compared);
+    seats::circuits_with_errors(&mut compared);
     controllers::library(&mut compared);
     controllers::sentences(&mut compared);
     controllers::status(&mut compared);
