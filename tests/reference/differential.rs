@@ -59,13 +59,18 @@ impl Harness {
         wanted
     }
 
-    /// One call on both sides that is known to be refused so, with nothing changed: a reference that is wrong where the library is would be seen.
-    fn compare_refused(&mut self, call: Call, number: u8, answer: Answer) {
-        let known = Outcome { number, answer, bytes: call.bytes.clone(), words: call.words.clone(), spilled: false };
+    /// One call on both sides, beside all that is known to come of it: a reference that is wrong where the library is would be seen.
+    fn compare_as(&mut self, call: Call, known: Outcome) {
         let found = self.compare(call.clone());
         if found != known {
             self.differ_as(["reference:", "known:"], &call, &found, &known);
         }
+    }
+
+    /// The same of a call that is known to be refused so, with nothing changed.
+    fn compare_refused(&mut self, call: Call, number: u8, answer: Answer) {
+        let known = Outcome { number, answer, bytes: call.bytes.clone(), words: call.words.clone(), spilled: false };
+        self.compare_as(call, known);
     }
 
     /// One call on the library alone, beside all that is known to come of it.
@@ -130,7 +135,7 @@ impl Harness {
 
     /// The group's line: how many cases, how many of them accepted, and how many refused by each number.
     fn show(&self) {
-        const KINDS: [&str; 6] = ["nothing", "swap", "turn", "mark", "end", "two swaps"];
+        const KINDS: [&str; 7] = ["nothing", "swap", "turn", "mark", "end", "two swaps", "seat"];
         let Tally { compared, numbers, kinds } = &self.tally;
         let accepted = numbers.get(&0).copied().unwrap_or(0);
         let refused: String = numbers.iter().filter(|(number, _)| **number != 0).map(|(number, times)| format!(" {number}:{times}")).collect();

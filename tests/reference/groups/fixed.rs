@@ -2,11 +2,11 @@
 
 use super::campaigns::{begin_on, on_state};
 use super::rehearsals::on_rehearsal;
-use crate::calls::{Call, Name};
+use crate::calls::{Call, Name, Outcome};
 use crate::inputs::{self, Rng};
 use crate::Harness;
 use face::raw;
-use reference::campaign::{COVERED, ERRORS, OPEN, STANDING, WORDS};
+use reference::campaign::{COVERED, ENDED, ERRORS, OPEN, STANDING, WORDS};
 use reference::list::{at, count_of};
 use reference::plan::{Leg, Plan};
 use reference::rehearsal::REHEARSAL_WORDS;
@@ -149,17 +149,22 @@ pub fn null_pointers(h: &mut Harness) {
     }
 }
 
-/// Errors at their limit: a standing mark with 65,533 errors and up, each report twice over, plain and by number, and the request between.
+/// Requests up to the next mark or the end, or until one is refused.
+fn to_mark(h: &mut Harness, mut state: Vec<u64>) -> Vec<u64> {
+    loop {
+        let Outcome { number, words, .. } = h.compare(Call::on_both(Name::Request, vec![0; 45], state));
+        state = words;
+        if number != 0 || state[STANDING] == 1 || state[ENDED] == 1 {
+            return state;
+        }
+    }
+}
+
+/// Errors at their limit: a standing mark with 65,533 errors and up, each report twice over, plain and by number, and the requests between.
 pub fn errors(h: &mut Harness) {
     let plan = Plan { ports: 5, legs: vec![Leg { start: 7, run: -3 }] };
     let first = h.compare(Call::on_both(Name::Begin, inputs::plan_text(&plan), vec![0; WORDS])).words;
-    let standing = {
-        let mut state = first;
-        while state[STANDING] == 0 {
-            state = h.compare(Call::on_both(Name::Request, vec![0; 45], state)).words;
-        }
-        state
-    };
+    let standing = to_mark(h, first);
     for errors in [0, 1, 65_533, 65_534, 65_535, 65_536, 65_537, 131_071, 1 << 32, u64::MAX] {
         for kinds in [[1, 1], [1, 0], [1, 2], [0, 1], [2, 1]] {
             for by_number in [false, true] {
@@ -169,7 +174,7 @@ pub fn errors(h: &mut Harness) {
                     let mark = state[COVERED] + state[OPEN];
                     let name = if by_number { Name::ReportMark { mark, kind } } else { Name::Report { kind } };
                     state = h.compare(Call::on_both(name, vec![], state)).words;
-                    state = h.compare(Call::on_both(Name::Request, vec![0; 45], state)).words;
+                    state = to_mark(h, state);
                 }
             }
         }
@@ -192,7 +197,7 @@ pub fn kinds(h: &mut Harness) {
     }
 }
 
-/// Each of the 61 words of several states, at its moments, with each of a list of values; and states of other lengths.
+/// Each of the 62 words of several states, at its moments, with each of a list of values; and states of other lengths.
 pub fn words(h: &mut Harness) {
     let mut rng = Rng::of(h.seed, "words", 0);
     for _ in 0..30 {
@@ -208,7 +213,7 @@ pub fn words(h: &mut Harness) {
                 on_state(h, &mut rng, changed);
             }
         }
-        for length in [0, 1, 60, 62, 122, 317] {
+        for length in [0, 1, 61, 63, 124, 317] {
             let mut other = state.to_vec();
             other.resize(length, 0);
             h.compare(Call::on_both(Name::Resume, reached.panel.clone(), other.clone()));

@@ -26,6 +26,8 @@ struct Book {
     ran: u64,
     gave_up: u64,
     errors: u64,
+    /// The jack that the next request is to seat, 0 for none.
+    seat: u64,
     /// Every report that was taken: the mark's number, and the kind.
     taken: Vec<(u64, u8)>,
 }
@@ -46,7 +48,15 @@ impl Book {
         self.standing = None;
         self.taken.push((mark, kind));
         *[&mut self.ran, &mut self.errors, &mut self.gave_up][usize::from(kind)] += 1;
+        self.seat = u64::from(kind == 1);
         0
+    }
+
+    /// The jack that is due to be seated, if one is; the one after it is due next.
+    fn seat_due(&mut self) -> Option<u64> {
+        let due = self.seat;
+        self.seat = if due == 0 || due == self.plan.ports as u64 { 0 } else { due + 1 };
+        (due != 0).then_some(due)
     }
 
     /// What a status says of it, but for the rank where no mark stands.
@@ -58,11 +68,11 @@ impl Book {
 }
 
 /// A long campaign with reports by number, over a line that sends some of them twice: a report that was taken comes again at any later time, and is never
-/// taken for another mark. Number and counts are held to the bench's own book.
+/// taken for another mark. Number, counts and seats are held to the bench's own book.
 pub fn sent_twice(h: &mut Harness, rng: &mut Rng) {
     let plan = if rng.chance(85) { inputs::short_plan(rng, 60) } else { inputs::plan(rng) };
     let mut state = begin_on(h, rng, inputs::plan_text(&plan), WORDS).words;
-    let mut book = Book { plan, standing: None, ran: 0, gave_up: 0, errors: 0, taken: vec![] };
+    let mut book = Book { plan, standing: None, ran: 0, gave_up: 0, errors: 0, seat: 0, taken: vec![] };
     let mut after_end = 0;
     for _ in 0..rng.between(100, 600) {
         let again = if book.taken.is_empty() || rng.chance(70) { None } else { Some(rng.pick(&book.taken)) };
@@ -81,6 +91,8 @@ pub fn sent_twice(h: &mut Harness, rng: &mut Rng) {
             outcome.words
         } else {
             let outcome = h.compare(Call::on_both(Name::Request, rng.bytes(45), state));
+            let seated = (outcome.answer[0] == 6).then_some(outcome.answer[1]);
+            h.compare_made("the jack to seat, beside the book", outcome.number, seated, book.seat_due());
             if let [3, number, rank, ..] = outcome.answer {
                 h.compare_made("a mark's number, beside the marks closed", outcome.number, number, book.closed());
                 book.standing = Some((number, rank));

@@ -9,15 +9,15 @@ pub fn line_words(rng: &mut Rng, n: usize) -> [u64; 4] {
         0 => wide(rng),
         1 => rng.between(0, 7) as u64,
         2 => 256 + rng.between(0, 7) as u64,
-        _ => rng.between(1, 4) as u64,
+        _ => rng.pick(&[1, 2, 3, 4, 6]),
     };
     let mut words = [kind, wide(rng), wide(rng), wide(rng)];
-    if kind <= 2 || rng.chance(10) {
+    if kind <= 2 || kind == 6 || rng.chance(10) {
         let jacks = permutation(rng, n.max(3));
         let mut three = [jacks[0], jacks[1], jacks[2]].map(u64::from);
         if kind == 1 {
             three[..2].sort();
-        } else {
+        } else if kind != 6 {
             let least = (0..3).min_by_key(|&j| three[j]).expect("three jacks");
             three.rotate_left(least);
         }
@@ -42,11 +42,12 @@ pub fn line(rng: &mut Rng) -> Line {
     let mut three = [jacks[0], jacks[1], jacks[2]].map(u64::from);
     three.sort();
     let [a, b, c] = three;
-    match rng.below(4) {
+    match rng.below(5) {
         0 => Line::Swap(a, b),
         1 if rng.chance(50) => Line::Turn(a, b, c),
         1 => Line::Turn(a, c, b),
         2 => Line::Mark(wide(rng), wide(rng)),
+        3 => Line::Seat(jacks[3].into()),
         _ => Line::End(wide(rng)),
     }
 }
@@ -92,12 +93,12 @@ pub fn line_text(rng: &mut Rng) -> Vec<u8> {
         }
         3 => {
             let jacks = line_words(rng, 20);
-            let key = rng.pick(&["swap=", "turn=", "mark=", "end="]);
+            let key = rng.pick(&["swap=", "turn=", "mark=", "end=", "seat="]);
             let numbers: Vec<String> = jacks[1..rng.between(2, 4)].iter().map(u64::to_string).collect();
             format!("{key}{}\n", numbers.join(",")).into_bytes()
         }
         _ => {
-            let key = rng.pick(&["swap=", "turn=", "mark=", "end=", "swap", "end", "Swap=", " end=", "seat=", "=", ""]);
+            let key = rng.pick(&["swap=", "turn=", "mark=", "end=", "seat=", "swap", "end", "seat", "Swap=", " end=", "set=", "=", ""]);
             let numbers: Vec<String> = (0..rng.below(5)).map(|_| number_text(rng)).collect();
             let newline = rng.pick(&["\n", "\n", "\n", "\r\n", ""]);
             format!("{key}{}{newline}", numbers.join(",")).into_bytes()

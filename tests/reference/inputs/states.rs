@@ -1,7 +1,7 @@
 //! States and rehearsals: reached by calls, one step away from those, and by chance.
 
 use super::{any_panel, damage_entries, pattern, permutation, plan, ports, rank, run, short_plan, wide, Rng, BAD_LENGTHS};
-use reference::campaign::{State, COVERED, ENDED, ERRORS, LEG, LEGS, OPEN, PANEL, PORTS, RUNS, STANDING, STARTS, STEP, WORDS};
+use reference::campaign::{State, COVERED, ENDED, ERRORS, LEG, LEGS, OPEN, PANEL, PORTS, RUNS, SEAT, STANDING, STARTS, STEP, WORDS};
 use reference::rehearsal::{Rehearsal, REHEARSAL_ENDED, REHEARSAL_WORDS};
 use reference::list::{apply, place, count_of, difference, Move};
 
@@ -20,11 +20,12 @@ pub fn reached(rng: &mut Rng) -> State {
     let mut state = State::first(plan);
     let plan = &state.plan;
     let wanted = plan.pattern(leg, step);
-    let moment = rng.below(6);
+    let moment = rng.below(8);
+    let seating = moment > 5;
     state.ended = moment == 0 && plan.is_last(leg, step);
     state.standing = !state.ended && moment <= 2;
     state.panel = wanted.clone();
-    if !state.standing && !state.ended && moment > 3 {
+    if moment == 4 || moment == 5 {
         if step == 0 {
             state.panel = permutation(rng, plan.ports);
         } else {
@@ -38,6 +39,11 @@ pub fn reached(rng: &mut Rng) -> State {
     state.covered = rng.below_wide(closed + 1);
     state.open = closed - state.covered;
     state.errors = rng.pick(&[0, 1, 2, 65_534, 65_535]);
+    if seating {
+        let any = rng.between(1, plan.ports);
+        state.seat = rng.pick(&[1, any, plan.ports]) as u64;
+        state.errors = state.errors.max(1);
+    }
     (state.leg, state.step) = (leg, step);
     state
 }
@@ -63,7 +69,7 @@ pub fn damage_word(rng: &mut Rng, words: &mut [u64], place: usize) {
 
 /// Two words changed so that what they say together stays near the rules.
 pub fn damage_pair(rng: &mut Rng, words: &mut [u64]) {
-    match rng.below(5) {
+    match rng.below(7) {
         0 => words.swap(PANEL + rng.below(20), PANEL + rng.below(20)),
         1 => {
             words[COVERED] = words[COVERED].wrapping_add(1);
@@ -77,6 +83,14 @@ pub fn damage_pair(rng: &mut Rng, words: &mut [u64]) {
             words[STANDING] ^= 1;
             words[ENDED] ^= 1;
         }
+        4 => {
+            words[STANDING] ^= 1;
+            words[SEAT] ^= 1;
+        }
+        5 => {
+            words[ERRORS] = 0;
+            words[SEAT] = rng.between(0, 21) as u64;
+        }
         _ => {
             words[STEP] = words[STEP].wrapping_add(1);
             words[COVERED] = words[COVERED].wrapping_add(1);
@@ -89,7 +103,7 @@ pub fn damaged_state(rng: &mut Rng) -> Vec<u64> {
     let mut words = reached(rng).to_words().to_vec();
     match rng.below(6) {
         0 => damage_pair(rng, &mut words),
-        1 => words.resize(rng.pick(&[0, 1, REHEARSAL_WORDS, 60, 62, 122]), 0),
+        1 => words.resize(rng.pick(&[0, 1, REHEARSAL_WORDS, 61, 63, 124]), 0),
         _ => {
             let place = rng.below(WORDS);
             damage_word(rng, &mut words, place);
@@ -149,6 +163,7 @@ pub fn random_state(rng: &mut Rng) -> Vec<u64> {
     words[ERRORS] = rng.pick(&[0, 1, 65_534, 65_535, 65_536, 131_071, u64::MAX]);
     words[STANDING] = rng.pick(&[0, 0, 0, 1, 2]);
     words[ENDED] = rng.pick(&[0, 0, 0, 1, 256]);
+    words[SEAT] = rng.pick(&[0, 0, 0, 0, 1, n as u64, n as u64 + 1, 256]);
     words
 }
 
@@ -192,7 +207,7 @@ pub fn saved(rng: &mut Rng, state: &State) -> Vec<u64> {
     let mut words = state.to_words().to_vec();
     match rng.below(12) {
         0 => damage_pair(rng, &mut words),
-        1 => words.resize(rng.pick(&[0, 1, 60, 62, 122, REHEARSAL_WORDS]), 0),
+        1 => words.resize(rng.pick(&[0, 1, 61, 63, 124, REHEARSAL_WORDS]), 0),
         2 => {
             let place = rng.below(WORDS);
             damage_word(rng, &mut words, place);
@@ -213,7 +228,7 @@ pub fn rehearsed(rng: &mut Rng) -> Rehearsal {
     Rehearsal { plan, panel, leg, step, ended }
 }
 
-/// A rehearsal of words taken by chance: those of such a state without the four of its counts.
+/// A rehearsal of words taken by chance: those of such a state without its counts, its standing mark and its jack to seat.
 pub fn random_rehearsal(rng: &mut Rng) -> Vec<u64> {
     let state = random_state(rng);
     let mut words = state[..REHEARSAL_WORDS].to_vec();
