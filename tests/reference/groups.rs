@@ -9,6 +9,7 @@ mod named;
 mod numbered;
 mod rehearsals;
 mod repeated;
+mod seats;
 mod sentences;
 
 use crate::calls::Name;
@@ -22,6 +23,7 @@ use named::*;
 use numbered::*;
 use rehearsals::*;
 use repeated::*;
+use seats::*;
 use sentences::*;
 
 pub enum Work {
@@ -38,7 +40,7 @@ pub struct Group {
     pub meets: &'static [u8],
 }
 
-pub const GROUPS: [Group; 57] = [
+pub const GROUPS: [Group; 63] = [
     Group { name: "library", work: Work::Whole(library), meets: &[0, 2] },
     Group { name: "count", work: Work::Whole(count), meets: &[0, 1] },
     Group { name: "circuits", work: Work::Whole(circuits), meets: &[0] },
@@ -91,6 +93,12 @@ pub const GROUPS: [Group; 57] = [
     Group { name: "both jacks", work: Work::Whole(both_jacks), meets: &[3, 4, 5] },
     Group { name: "numbers and places", work: Work::Whole(numbers_and_places), meets: &[3, 4, 5] },
     Group { name: "sentences", work: Work::Whole(sentences), meets: &[0, 2] },
+    Group { name: "seat lines", work: Work::Whole(seat_lines), meets: &[0, 1, 2, 3, 4, 7, 8, 11, 17] },
+    Group { name: "seats, campaigns", work: Work::Whole(campaigns_with_errors), meets: &[0, 2, 12, 13, 14, 15] },
+    Group { name: "seats, errors at their limit", work: Work::Whole(last_errors), meets: &[0, 2, 12, 13, 14, 15, 16] },
+    Group { name: "seats, one field away", work: Work::Whole(one_field_away), meets: &[0, 2, 12, 14, 15] },
+    Group { name: "seats, all states of 2 to 4 ports", work: Work::Whole(small_states), meets: &[0, 2, 12, 13, 14, 15] },
+    Group { name: "seats, all panels of 2 to 4 ports", work: Work::Whole(small_panels), meets: &[0, 1, 3, 4, 15] },
     Group { name: "named, refusals", work: Work::Whole(named_refusals), meets: &[0, 1, 2, 6, 7, 8, 9, 10, 11] },
     Group { name: "dictionary, all patterns of 2 to 8 ports", work: Work::Whole(small_dictionaries), meets: &[0] },
     Group { name: "dictionary, ends", work: Work::Whole(dictionary_ends), meets: &[0, 6] },
