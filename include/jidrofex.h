@@ -33,11 +33,11 @@ extern "C" {
 
 /* The version of this header. It goes up by one whenever a call, a constant or the words of a state change;
  * jidrofex_version gives that of the library. */
-enum { JIDROFEX_VERSION = 4 };
+enum { JIDROFEX_VERSION = 5 };
 
 /* The version of the words of a state, which is saved with them. It goes up by one whenever they change, and only then:
  * a library of a later version goes on with a saved state of the same words. */
-enum { JIDROFEX_STATE_VERSION = 1 };
+enum { JIDROFEX_STATE_VERSION = 2 };
 
 enum {
     JIDROFEX_MOST_PORTS = 20,
@@ -66,7 +66,7 @@ enum {
     JIDROFEX_REFUSED_LEGS = 9,         /* in a plan: legs not 1 to 16 */
     JIDROFEX_REFUSED_RUN = 10,         /* in a plan: run too long */
     JIDROFEX_REFUSED_ENDED = 11,       /* in text: ended early or went on */
-    JIDROFEX_REFUSED_NO_MARK = 12,     /* a report where no mark stands, or of another mark than the one that does */
+    JIDROFEX_REFUSED_NO_MARK = 12,     /* a report where no mark stands, as while seating, or of another than stands */
     JIDROFEX_REFUSED_MARK_STANDS = 13, /* a request while a mark stands */
     JIDROFEX_REFUSED_KIND = 14,        /* a report of a kind above 2 */
     JIDROFEX_REFUSED_UNFIT = 15,       /* the state or the rehearsal is unfit, or its words are none */
@@ -75,7 +75,8 @@ enum {
 };
 
 /* The kind of a line or a move. A line is JIDROFEX_LINE_WORDS words: its kind and three numbers, 0 where it has fewer.
- *     swap   a, b          turn   a, b, c          mark   number, rank          end   marks
+ *     swap   a, b      turn   a, b, c      mark   number, rank      end   marks      seat   jack
+ * A seat is no movement: the robot presses the cord at that jack home, and the panel stays as it is.
  * In a line that is passed to a call, words that its kind has no use for are not looked at, and a kind that is no
  * line's, or a number where a jack stands that no jack has, is refused as out of shape (17).
  * A move is its kind and four jacks: nothing, a swap, a turn, or two swaps a,b and c,d. */
@@ -85,7 +86,8 @@ enum {
     JIDROFEX_TURN = 2,
     JIDROFEX_MARK = 3,
     JIDROFEX_END = 4,
-    JIDROFEX_TWO_SWAPS = 5
+    JIDROFEX_TWO_SWAPS = 5,
+    JIDROFEX_SEAT = 6
 };
 
 /* What a bench reports of the standing mark. */
@@ -96,8 +98,9 @@ enum {
 };
 
 /* The state of a campaign: so many 64-bit words, each field at its place. Later fields come last. Words of another
- * number, or a word that its field cannot hold, are an unfit state (15), and nothing is written: ports, legs, leg and
- * each place of the panel hold at most 255, errors at most 4,294,967,295, standing and ended 0 or 1. */
+ * number, or a word that its field cannot hold, are an unfit state (15), and nothing is written: ports, legs, leg, the
+ * next jack to seat and each place of the panel hold at most 255, errors at most 4,294,967,295, standing and ended 0 or
+ * 1. */
 enum {
     JIDROFEX_STATE_PORTS = 0,
     JIDROFEX_STATE_LEGS = 1,
@@ -111,7 +114,8 @@ enum {
     JIDROFEX_STATE_ERRORS = 58,
     JIDROFEX_STATE_STANDING = 59, /* 1 while a mark stands, else 0 */
     JIDROFEX_STATE_ENDED = 60,    /* 1 once the end is shown, else 0 */
-    JIDROFEX_STATE_WORDS = 61
+    JIDROFEX_STATE_SEAT = 61,     /* the next jack to seat, 0 for none: after an error 1, after the last jack 0 */
+    JIDROFEX_STATE_WORDS = 62
 };
 
 /* A rehearsal of a plan: lines in bulk, every mark taken as run. It is no state of a campaign and has no counts: the
@@ -199,7 +203,8 @@ uint8_t jidrofex_port_at(const uint8_t *panel, size_t ports, uint8_t jack, uint6
 /* Gives the jack that holds a port. Refused: 1, 3, 4, 17 (a port outside 1..n). */
 uint8_t jidrofex_jack_of(const uint8_t *panel, size_t ports, uint8_t port, uint64_t answer[JIDROFEX_ANSWER_WORDS]);
 
-/* A line carried out on the panel; a mark and an end leave it as it is. Gives nothing. Refused: 1, 3, 4, 17.
+/* A line carried out on the panel; a mark, an end and a seat leave it as it is. Gives nothing. Refused: 1, 3, 4, 17 (a
+ * jack above n, that of a seat too).
  * The first four words that jidrofex_read_line or jidrofex_request gave are a line as they stand: pass that answer as
  * `line`, and another array as `answer`; one array cannot be both. */
 uint8_t jidrofex_carry(uint8_t *panel, size_t ports, const uint64_t line[JIDROFEX_LINE_WORDS],
@@ -238,13 +243,16 @@ uint8_t jidrofex_begin(const uint8_t *text, size_t bytes, uint64_t *state, size_
  * where the state is unfit, and needs no buffer. Refused: 15. */
 uint8_t jidrofex_status(const uint64_t *state, size_t words, uint64_t answer[JIDROFEX_ANSWER_WORDS]);
 
-/* The next order, its line at the front of the buffer; later bytes keep their values. Gives the line's four words and
- * how many bytes it takes, at most JIDROFEX_LINE_BYTES. Refused: 15, 13, 2. */
+/* The next order, its line at the front of the buffer; later bytes keep their values. After an error the orders are a
+ * seat for each jack from 1 to n, one for each request, and then the same mark again, with its number; at no other time
+ * is there a seat. The state that a seat leaves is saved only when the robot has seated that jack: docs/USING.md says
+ * why. Gives the line's four words and how many bytes it takes, at most JIDROFEX_LINE_BYTES. Refused: 15, 13, 2. */
 uint8_t jidrofex_request(uint64_t *state, size_t words, uint8_t *buffer, size_t bytes,
                          uint64_t answer[JIDROFEX_ANSWER_WORDS]);
 
-/* What the bench says of the mark that stands, whichever it is: for a controller that sends no report twice. Gives
- * nothing. Refused: 15, 14, 12, 16. */
+/* What the bench says of the mark that stands, whichever it is: for a controller that sends no report twice. After an
+ * error no mark stands until it is handed out again: a report while jacks are seated is refused (12). Gives nothing.
+ * Refused: 15, 14, 12, 16. */
 uint8_t jidrofex_report(uint64_t *state, size_t words, uint8_t kind, uint64_t answer[JIDROFEX_ANSWER_WORDS]);
 
 /* What the bench says of the mark with this number, from 0: the report if that mark stands, else refused (12). So a
@@ -252,9 +260,10 @@ uint8_t jidrofex_report(uint64_t *state, size_t words, uint8_t kind, uint64_t an
 uint8_t jidrofex_report_mark(uint64_t *state, size_t words, uint64_t mark, uint8_t kind,
                              uint64_t answer[JIDROFEX_ANSWER_WORDS]);
 
-/* Going on after a power cut: the saved state with the panel as it was read back put in. Refused with the panel's own
- * numbers, then with 15: words that are no state, a panel of other ports than the state's, a panel with which the state
- * is unfit. Gives nothing. Refused: 1, 3, 4, 15. */
+/* Going on after a power cut: the saved state with the panel as it was read back put in. Where jacks are still to be
+ * seated the seats begin anew, with jack 1: no panel that is read back shows whether a seat was done. Refused with the
+ * panel's own numbers, then with 15: words that are no state, a panel of other ports than the state's, a panel with
+ * which the state is unfit. Gives nothing. Refused: 1, 3, 4, 15. */
 uint8_t jidrofex_resume(uint64_t *state, size_t words, const uint8_t *panel, size_t ports,
                         uint64_t answer[JIDROFEX_ANSWER_WORDS]);
 
