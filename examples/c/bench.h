@@ -11,11 +11,12 @@ int bench_opens(const char *name, size_t ports);
 /* Reads the panel back from the cords themselves: the port at each jack, 0 where no cord is in. */
 int bench_reads(uint8_t *panel);
 
-/* The robot carries out a swap or a turn, and is done when this comes back. */
+/* The robot carries out a swap or a turn, or seats the cord at a jack, and is done when this comes back. */
 int bench_obeys(const uint64_t line[JIDROFEX_LINE_WORDS]);
 
 /* The tester runs the traffic of a mark to its end, on the cords as they stand. What it says of it is put into `kind`:
- * JIDROFEX_RAN, JIDROFEX_ERROR (the same mark comes again) or JIDROFEX_GAVE_UP (it stays open). */
+ * JIDROFEX_RAN, JIDROFEX_ERROR (every jack is seated, and the same mark comes again) or JIDROFEX_GAVE_UP (it stays
+ * open). */
 int bench_runs(uint64_t mark, uint64_t rank, uint8_t *kind);
 
 #endif

@@ -6,7 +6,8 @@
  * on. PANEL is the file that plays the cords (bench.c). Kill it at any moment and start it again: it goes on.
  *
  * Prints the line of each order as it is handed out. The rule: the state that a call left is saved before anything is
- * done about its answer, and before the next call. docs/USING.md says why. */
+ * done about its answer, and before the next call; but that of a seat only when the robot has seated the jack.
+ * docs/USING.md says why. */
 #include "bench.h"
 #include "jidrofex.h"
 #include "keep.h"
@@ -106,7 +107,7 @@ static int go_on(const char *name, uint64_t *state)
             number = jidrofex_request(state, JIDROFEX_STATE_WORDS, line, sizeof line, answer);
             if (number != 0)
                 return refused("request", number, answer);
-            if (keep_write(name, state) != 0)
+            if (answer[0] != JIDROFEX_SEAT && keep_write(name, state) != 0)
                 return 1;
             if (fwrite(line, 1, (size_t)answer[4], stdout) != answer[4] || fflush(stdout) != 0) {
                 perror("standard output");
@@ -115,6 +116,8 @@ static int go_on(const char *name, uint64_t *state)
             if (answer[0] == JIDROFEX_END)
                 return 0;
             if (answer[0] != JIDROFEX_MARK && bench_obeys(answer) != 0)
+                return 1;
+            if (answer[0] == JIDROFEX_SEAT && keep_write(name, state) != 0) /* no panel shows whether a seat was done */
                 return 1;
         }
     }

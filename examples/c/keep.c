@@ -1,6 +1,6 @@
 /* The state's file is text, lines that each end in a newline:
  *
- *     jidrofex state, version 1      what it is, with the version of the words of a state
+ *     jidrofex state, version 2      what it is, with the version of the words of a state
  *     4                              the words of the state in turn, in decimal
  *     ..
  *     sum 0123456789abcdef           the 64-bit FNV-1a sum of all bytes before this line
@@ -19,7 +19,7 @@
 #include <unistd.h>
 
 enum {
-    FILE_BYTES = 2048, /* more than any state takes: 61 words of at most 20 digits, and two lines */
+    FILE_BYTES = 2048, /* more than any state takes: 62 words of at most 20 digits, and two lines */
     NAME_BYTES = 4096
 };
 

@@ -6,14 +6,15 @@
 //! goes on. PANEL is the file that plays the cords (bench.rs). Kill it at any moment and start it again: it goes on.
 //!
 //! Prints the line of each order as it is handed out. The rule: the state that a call left is saved before anything is
-//! done about its answer, and before the next call. docs/USING.md says why.
+//! done about its answer, and before the next call; but that of a seat only when the robot has seated the jack.
+//! docs/USING.md says why.
 
 mod bench;
 mod jidrofex;
 mod keep;
 
 use bench::Bench;
-use jidrofex::{State, END, MARK, STATE_PANEL, STATE_PORTS, VERSION};
+use jidrofex::{State, END, MARK, SEAT, STATE_PANEL, STATE_PORTS, VERSION};
 use std::io::{stdout, Write};
 use std::path::{Path, PathBuf};
 use std::process::ExitCode;
@@ -47,13 +48,18 @@ fn go_on(name: &Path, state: &mut State, bench: &Bench) -> Result<(), String> {
         } else {
             // the next order is asked for; only when that is saved it is shown and obeyed
             let (order, line) = jidrofex::request(state)?;
-            keep::write(name, state)?;
+            if order[0] != SEAT {
+                keep::write(name, state)?;
+            }
             let mut out = stdout();
             out.write_all(&line).and_then(|()| out.flush()).map_err(|error| format!("standard output: {error}"))?;
             match order[0] {
                 END => return Ok(()),
                 MARK => {}
                 _ => bench.obeys(&order)?,
+            }
+            if order[0] == SEAT {
+                keep::write(name, state)?; // no panel shows whether a seat was done
             }
         }
     }

@@ -22,17 +22,19 @@ mod raw {
     }
 }
 
-pub const VERSION: u64 = 4;
-pub const STATE_VERSION: u64 = 1;
+pub const VERSION: u64 = 5;
+pub const STATE_VERSION: u64 = 2;
 pub const ANSWER_WORDS: usize = 5;
 pub const LINE_BYTES: usize = 45;
 pub const SENTENCE_BYTES: usize = 86;
-pub const STATE_WORDS: usize = 61;
+pub const STATE_WORDS: usize = 62;
 pub const STATE_PORTS: usize = 0;
 pub const STATE_PANEL: usize = 34; // the words before it are the plan
 pub const MARK: u64 = 3;
 pub const END: u64 = 4;
+pub const SEAT: u64 = 6;
 pub const RAN: u8 = 0;
+pub const ERROR: u8 = 1;
 
 pub type Answer = [u64; ANSWER_WORDS];
 pub type State = [u64; STATE_WORDS];

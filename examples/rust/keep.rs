@@ -2,7 +2,7 @@
 //!
 //! The file is text, lines that each end in a newline:
 //!
-//!     jidrofex state, version 1      what it is, with the version of the words of a state
+//!     jidrofex state, version 2      what it is, with the version of the words of a state
 //!     4                              the words of the state in turn, in decimal
 //!     ..
 //!     sum 0123456789abcdef           the 64-bit FNV-1a sum of all bytes before this line
