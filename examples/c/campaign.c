@@ -67,7 +67,19 @@ static void say_cords(const uint64_t *state)
     fprintf(stderr, " and start again\n");
 }
 
-/* Takes the campaign up, a new one as well as a saved one: the panel is read back and put into the state. */
+/* The robot seats every jack. */
+static int seat_all(uint64_t ports)
+{
+    uint64_t line[JIDROFEX_LINE_WORDS] = {JIDROFEX_SEAT, 1, 0, 0};
+
+    for (; line[1] <= ports; line[1]++)
+        if (bench_obeys(line) != 0)
+            return 1;
+    return 0;
+}
+
+/* Takes the campaign up, a new one as well as a saved one: the panel is read back and put into the state. A mark that
+ * stands already may have met an error that was not saved: every jack is seated before its traffic is run again. */
 static int take_up(const char *name, uint64_t *state)
 {
     size_t ports = (size_t)state[JIDROFEX_STATE_PORTS];
@@ -82,7 +94,9 @@ static int take_up(const char *name, uint64_t *state)
         say_cords(state);
         return 1;
     }
-    return keep_write(name, state) != 0;
+    if (keep_write(name, state) != 0)
+        return 1;
+    return state[JIDROFEX_STATE_STANDING] ? seat_all(ports) : 0;
 }
 
 /* Does what the state says until the end is shown. */

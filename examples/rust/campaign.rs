@@ -27,13 +27,20 @@ fn cords_to_set(state: &State) -> Result<String, String> {
     Ok(format!("set the cords to {} and start again", ports.join(" ")))
 }
 
-/// Takes the campaign up, a new one as well as a saved one: the panel is read back and put into the state.
+/// Takes the campaign up, a new one as well as a saved one: the panel is read back and put into the state. A mark that
+/// stands already may have met an error that was not saved: every jack is seated before its traffic is run again.
 fn take_up(name: &Path, state: &mut State, bench: &Bench) -> Result<(), String> {
     let panel = bench.reads()?;
     if let Err(refusal) = jidrofex::resume(state, &panel) {
         return Err(format!("{refusal}\n{}", cords_to_set(state)?));
     }
-    keep::write(name, state)
+    keep::write(name, state)?;
+    if jidrofex::status(state)?.standing {
+        for jack in 1..=state[STATE_PORTS] {
+            bench.obeys(&[SEAT, jack, 0, 0, 0])?;
+        }
+    }
+    Ok(())
 }
 
 /// Does what the state says until the end is shown.
