@@ -1,6 +1,8 @@
 /* The library's calls as the example makes them in the cut test, and the bench's part. The truth is kept here: which
- * traffic ran to its end on its pattern, and which reports 'ran' were taken for a mark whose traffic did not. */
+ * jacks are seated, which traffic ran to its end on its pattern with every jack seated, and which reports 'ran' were taken
+ * for a mark whose traffic did not. */
 #include "bench.h"
+#include "keep.h"
 #include "world.h"
 
 #include <string.h>
@@ -89,6 +91,7 @@ uint8_t __wrap_jidrofex_request(uint64_t *state, size_t words, uint8_t *buffer, 
     must_be_saved(state);
     point();
     number = __real_jidrofex_request(state, words, buffer, bytes, answer);
+    world->asked = 1;
     if (number == 0)
         left(state);
     if (number == 0 && world->sent) { /* the channel sends the last report again */
@@ -134,12 +137,34 @@ int bench_reads(uint8_t *panel)
     return 0;
 }
 
+/* The power may fail before a seat, in it, and then the jack is not seated, and when it is done. What the request left is
+ * not saved yet, so that the file is as it was before it; at the start of a life no order was handed out. */
+static int seats(uint64_t jack)
+{
+    if (way == SEATS_SKIPPED || (way == START_UNSEATED && !world->asked))
+        return 0;
+    if (way == SEAT_SAVED && keep_write(STATE_NAME, world->now) != 0)
+        return -1;
+    must_be_saved(world->asked ? world->sure : world->now);
+    point();
+    world->unseated[jack - 1] = 1;
+    point();
+    world->unseated[jack - 1] = 0;
+    point();
+    return 0;
+}
+
 /* The power may fail before the order, in it, with a cord out, and when it is carried out. */
 int bench_obeys(const uint64_t line[JIDROFEX_LINE_WORDS])
 {
-    uint8_t *a = &world->panel[line[1] - 1], *b = &world->panel[line[2] - 1], held = *a;
+    uint8_t *a, *b, held;
 
+    if (line[0] == JIDROFEX_SEAT)
+        return seats(line[1]);
     must_be_saved(world->now);
+    a = &world->panel[line[1] - 1];
+    b = &world->panel[line[2] - 1];
+    held = *a;
     point();
     *a = 0;
     point();
@@ -154,21 +179,25 @@ int bench_obeys(const uint64_t line[JIDROFEX_LINE_WORDS])
     return 0;
 }
 
-/* The power may fail before the traffic, in it, and when it has run. */
+/* The power may fail before the traffic, in it, and when it has run. After an error each jack counts as not seated, whether
+ * the controller has heard of it or the power failed before. */
 int bench_runs(uint64_t mark, uint64_t rank, uint8_t *kind)
 {
     const char *answers = plan->answers[mark] != NULL ? plan->answers[mark] : "0";
-    uint8_t *given = &world->answered[mark];
+    uint8_t *given = &world->answered[mark], seated = memchr(world->unseated, 1, plan->ports) == NULL;
 
     (void)rank;
     must_be_saved(world->now);
     point();
+    world->on_unseated += !seated;
     point();
     *kind = (uint8_t)(answers[*given] - '0');
     if (answers[*given + 1] != '\0')
         (*given)++;
-    if (*kind == JIDROFEX_RAN && memcmp(world->panel, mark_pattern(mark), plan->ports) == 0)
+    if (*kind == JIDROFEX_RAN && seated && memcmp(world->panel, mark_pattern(mark), plan->ports) == 0)
         world->ran[mark] = 1;
+    if (*kind == JIDROFEX_ERROR)
+        memset(world->unseated, 1, plan->ports);
     point();
     return 0;
 }

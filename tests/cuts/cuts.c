@@ -44,22 +44,24 @@ static const struct plan plans[] = {
     {"one pattern of 2 ports", 2, 1, {0}, {0}, {NULL}},
     {"the paper's example", 4, 2, {0, 8}, {2, -1}, {NULL}},
     {"the same pattern in two legs, then another", 4, 3, {0, 0, 5}, {0, 0, -1}, {NULL}},
-    {"errors and marks given up", 4, 2, {1, 7}, {2, 0}, {"10", "2", "112", "10"}},
+    {"errors one after the other", 2, 1, {0}, {0}, {"110"}},
+    {"errors, and a mark given up after one", 4, 2, {1, 7}, {1, 0}, {"10", "12", "0"}},
     {"6 ports, round the end of the list, carried to another leg", 6, 2, {264, 100}, {1, -1}, {NULL}},
-    {"6 ports with errors, two swaps inside a leg", 6, 2, {131, 4}, {-1, 1}, {"0", "10", "20", "12"}},
+    {"6 ports with an error, two swaps inside a leg, and a mark given up", 6, 2, {131, 4}, {-1, 1}, {"0", "10", "2", "0"}},
 };
 enum { PLANS = sizeof plans / sizeof *plans };
 
 /* What was counted in one way. */
 static struct figures {
     unsigned long moments; /* worlds, no two the same, that a cut or a technician's hand left, and the first one */
+    unsigned long seating; /* of these, such in which jacks are not seated */
     unsigned long cuts;    /* points of their lives at which the power fails */
     unsigned long lives;   /* processes */
     unsigned long files;   /* disks that a cut may leave, of points between which something happened */
     unsigned long torn;    /* of these, such whose file was not one whole state, the old one or the new one */
     unsigned long taken;   /* torn files that the example did not refuse */
     unsigned long unlike;  /* processes ended at a point that left another world than was kept of it */
-    unsigned long early, restored, ended, stuck, false_covered, sent_again, taken_again;
+    unsigned long early, restored, ended, stuck, false_covered, on_unseated, sent_again, taken_again;
 } figures;
 
 /* ---- the worlds that were met */
@@ -99,11 +101,20 @@ static void meet(const struct world *found)
     list[listed++] = met[slot];
 }
 
-/* The world as a new life finds it, its disk being as it is now. */
+/* Whether this way is the practice. */
+static int is_right(void)
+{
+    return way == READ_BACK || way == TWICE_BY_NUMBER;
+}
+
+/* The world as a new life finds it, its disk being as it is now. No life sees which jacks are seated, and what does not lie
+ * with all of them unseated does not lie with some: of the practice, which must not lie, it is enough to try all. */
 static void settle(struct world *left)
 {
     const struct piece *piece = &left->disk.pieces[STATE];
 
+    if (is_right() && memchr(left->unseated, 1, plan->ports) != NULL)
+        memset(left->unseated, 1, plan->ports);
     left->has_sure = left->disk.now[STATE] == STATE && text_is_state(piece->text, piece->bytes, left->sure);
     if (!left->has_sure)
         memset(left->sure, 0, sizeof left->sure);
@@ -129,7 +140,7 @@ static int is_old_or_new(const struct world *left)
 static int is_same(const struct world *a, const struct world *b)
 {
     return memcmp(a, b, offsetof(struct world, point)) == 0 && memcmp(a->now, b->now, sizeof a->now) == 0 &&
-           a->has_now == b->has_now && a->false_covered == b->false_covered;
+           a->has_now == b->has_now && a->false_covered == b->false_covered && a->on_unseated == b->on_unseated;
 }
 
 void point(void)
@@ -176,7 +187,7 @@ static void after_cut(const struct world *at)
     for (unsigned k = 0; disk_outcome(&left.disk, k); k++, left = *at) {
         figures.files++;
         figures.torn += !is_old_or_new(&left);
-        if (left.false_covered == 0) { /* else it is counted where the life ends */
+        if (left.false_covered == 0 && left.on_unseated == 0) { /* else it is counted where the life ends */
             settle(&left);
             meet(&left);
         }
@@ -192,6 +203,7 @@ static void after_end(const struct world *from, int status)
 
     figures.early += left.early;
     figures.false_covered += left.false_covered;
+    figures.on_unseated += left.on_unseated;
     figures.sent_again += left.sent_again;
     figures.taken_again += left.taken_again;
     if (from->disk.now[STATE] >= 0 && !from->has_sure) { /* the file was torn: it is refused, and nothing is written */
@@ -243,18 +255,13 @@ static void make_cuts(const struct world *from, unsigned long points)
     }
 }
 
-/* Whether this way is the practice, and whether anything in it was as it must not be. */
-static int is_right(void)
-{
-    return way == READ_BACK || way == TWICE_BY_NUMBER;
-}
-
+/* Whether nothing was as it must not be. */
 static int is_sound(void)
 {
     const struct figures *f = &figures;
 
-    return f->false_covered == 0 && f->stuck == 0 && f->unlike == 0 && f->early == 0 && f->torn == 0 && f->taken == 0 &&
-           f->taken_again == 0;
+    return f->false_covered == 0 && f->on_unseated == 0 && f->stuck == 0 && f->unlike == 0 && f->early == 0 &&
+           f->torn == 0 && f->taken == 0 && f->taken_again == 0;
 }
 
 /* Every life of the plan in this way: from the world in which nothing has happened on. */
@@ -273,6 +280,7 @@ static void explore(void)
     for (size_t k = 0; k < listed && (is_sound() || !is_right()); k++) {
         status = life(list[k], 0);
         after_end(list[k], status);
+        figures.seating += memchr(list[k]->unseated, 1, plan->ports) != NULL;
         if (k > 0 && !is_right()) /* a wrong way is found out by one cut; in a right one any number does no harm */
             continue;
         figures.cuts += world->point;
@@ -286,19 +294,31 @@ static void explore(void)
 
 /* ---- what must be so */
 
+/* A way of seating that is wrong: it is found out by marks that were run while a jack was not seated, and covered. */
+static int is_found_out(const char *wrong)
+{
+    const struct figures *f = &figures;
+
+    printf("way with %s: %lu cut points, %lu lives: %lu run on a jack that was not seated, %lu false covered\n", wrong,
+           f->cuts, f->lives, f->on_unseated, f->false_covered);
+    return f->on_unseated > 0 && f->false_covered > 0;
+}
+
 static int judge(void)
 {
     const struct figures *f = &figures;
 
     switch (way) {
     case READ_BACK:
-        printf("way with the read-back: %d plans, %lu cut points, %lu lives: %lu false covered\n", PLANS, f->cuts, f->lives,
-               f->false_covered);
-        printf("way with the read-back: %lu moments in which a cut leaves the bench, no two the same: runs from them that do "
-               "not end with all marks closed: %lu; a technician sets the cords: %lu\n", f->moments, f->stuck, f->restored);
+        printf("way with the read-back: %d plans, %lu cut points, %lu lives: %lu false covered, %lu run on a jack that was not "
+               "seated\n", PLANS, f->cuts, f->lives, f->false_covered, f->on_unseated);
+        printf("way with the read-back: %lu moments in which a cut leaves the bench, no two the same, in %lu of them jacks not "
+               "seated: runs from them that do not end with all marks closed: %lu; a technician sets the cords: %lu\n",
+               f->moments, f->seating, f->stuck, f->restored);
         printf("way with the read-back: %lu files that a cut leaves, of these not one whole state, the old or the new: %lu; "
-               "calls made or cords moved before the state was saved: %lu\n", f->files, f->torn, f->early);
-        return is_sound() && f->ended > 0 && f->restored > 0 && f->ended + f->restored == f->moments;
+               "calls made or cords moved before the state was saved, and seats after it was: %lu\n", f->files, f->torn,
+               f->early);
+        return is_sound() && f->ended > 0 && f->seating > 0 && f->restored > 0 && f->ended + f->restored == f->moments;
     case NOT_READ_BACK:
         printf("way with the read-back taken out: %lu cut points, %lu lives: %lu false covered\n", f->cuts, f->lives,
                f->false_covered);
@@ -311,9 +331,15 @@ static int judge(void)
         printf("way with reports sent twice, without their number: %lu cut points, %lu lives: %lu false covered\n", f->cuts,
                f->lives, f->false_covered);
         return f->false_covered > 0;
-    default:
+    case NOT_SYNCED:
         printf("way with the file not synced: %lu files torn, of these taken for a state: %lu\n", f->torn, f->taken);
         return f->torn > 0 && f->taken == 0;
+    case SEAT_SAVED:
+        return is_found_out("a seat saved before the robot obeys");
+    case SEATS_SKIPPED:
+        return is_found_out("seats not obeyed");
+    default:
+        return is_found_out("no seats at a start where a mark stands");
     }
 }
 

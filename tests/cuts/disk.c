@@ -207,7 +207,7 @@ int disk_outcome(struct disk *disk, unsigned k)
 /* Whether the text is one whole state, read here by the format's description in keep.c and not by its code. */
 int text_is_state(const char *text, size_t bytes, uint64_t *words)
 {
-    static const char first[] = "jidrofex state, version 1\n";
+    static const char first[] = "jidrofex state, version 2\n";
     uint64_t sum = UINT64_C(0xcbf29ce484222325);
     char last[32];
     size_t at = sizeof first - 1;

@@ -8,7 +8,7 @@
 
 enum {
     MOST_MARKS = 16,
-    FILE_BYTES = 512,
+    FILE_BYTES = 256, /* more than a state of the test's plans takes */
     PIECES = 4,
     CUT = 77 /* the status of a process that was ended by a cut */
 };
@@ -22,6 +22,9 @@ enum way {
     TWICE_BY_NUMBER, /* each report that was taken is sent again, after every later request until it is taken once more */
     TWICE_PLAIN,     /* the same, and reports do not name their mark */
     NOT_SYNCED,      /* the state's file is renamed before its bytes are surely on the disk */
+    SEAT_SAVED,      /* the state that a seat leaves is saved before the robot seats the jack */
+    SEATS_SKIPPED,   /* no seat is obeyed */
+    START_UNSEATED,  /* the seats that a start at a standing mark begins with are not obeyed */
     WAYS
 };
 
@@ -52,7 +55,8 @@ struct world {
     /* what outlives the process: the disk, the cords, and what truly happened on the bench */
     struct disk disk;
     uint8_t panel[JIDROFEX_MOST_PORTS];
-    uint8_t ran[MOST_MARKS];      /* 1: its traffic ran to its end while its pattern stood on the panel */
+    uint8_t ran[MOST_MARKS];      /* 1: its traffic ran to its end while its pattern stood on the panel, every jack seated */
+    uint8_t unseated[JIDROFEX_MOST_PORTS]; /* 1: an error came, or a seat was cut into, and the jack was not seated since */
     uint8_t answered[MOST_MARKS]; /* how many of its answers the tester has given */
     uint8_t sent, sent_kind;      /* the channel that repeats: a report that is to be sent again */
     uint64_t sent_mark;
@@ -64,8 +68,10 @@ struct world {
     uint64_t now[JIDROFEX_STATE_WORDS]; /* the state that the last call left, if any did */
     uint8_t has_now;
     uint8_t resume_refused; /* the number */
-    unsigned false_covered; /* reports 'ran' that were taken for a mark whose traffic had not run on its pattern */
-    unsigned early;         /* calls made or things done on the bench before the state was surely saved */
+    uint8_t asked;          /* 1: an order was handed out */
+    unsigned false_covered; /* reports 'ran' that were taken for a mark whose traffic had not so run */
+    unsigned on_unseated;   /* traffic that was run while a jack was not seated */
+    unsigned early;         /* calls made or things done on the bench before the state was surely saved; seats after it was */
     unsigned sent_again, taken_again; /* reports that closed a mark: sent again, and taken again */
 };
 
