@@ -99,10 +99,16 @@ static void plans(reader read)
 
 /* ---- a campaign */
 
-/* The example's status: 5 marks; the number and the rank of its mark; whether it stands and whether the end is shown are in the words that are wanted. */
+/* The status: the plan's marks, for each leg the magnitude of its run and one; the number and the rank of its mark; whether it stands and whether the end is shown.
+ * All but the mark are in the words that are wanted. */
 static void status_is(const char *what, uint64_t mark, uint64_t rank)
 {
-    gives(what, jidrofex_status(state, JIDROFEX_STATE_WORDS, fresh()), 5, mark, rank, want[JIDROFEX_STATE_STANDING], want[JIDROFEX_STATE_ENDED]);
+    uint64_t marks = 0, leg;
+    for (leg = 0; leg < want[JIDROFEX_STATE_LEGS] && leg < JIDROFEX_MOST_LEGS; leg++) {
+        uint64_t run = want[JIDROFEX_STATE_RUNS + leg];
+        marks += (run >> 63 ? minus(run) : run) + 1;
+    }
+    gives(what, jidrofex_status(state, JIDROFEX_STATE_WORDS, fresh()), marks, mark, rank, want[JIDROFEX_STATE_STANDING], want[JIDROFEX_STATE_ENDED]);
     left(what);
 }
 
@@ -170,6 +176,27 @@ static void not_twice(uint64_t mark, uint8_t kind)
     left("report with no mark standing");
 }
 
+/* After an error each jack is seated, one for each request, before the same mark, which is that of the status, comes again; the panel stays. No report is taken until
+ * then: a kind above the last is refused first. */
+static void seats_are(uint64_t ports, uint64_t mark, uint64_t rank)
+{
+    uint64_t jack;
+    for (jack = 1; jack <= ports; jack++) {
+        char text[WHOLE];
+        sprintf(text, "seat=%lu\n", (unsigned long)jack);
+        same(on("the next jack to seat before", text), state[JIDROFEX_STATE_SEAT], jack);
+        want[JIDROFEX_STATE_SEAT] = jack < ports ? jack + 1 : 0;
+        order_is(JIDROFEX_SEAT, jack, 0, 0, text);
+        status_is(on("status after", text), mark, rank);
+        not_twice(mark, JIDROFEX_ERROR);
+        not_twice(mark, JIDROFEX_RAN);
+        refused(on("a kind above the last after", text), jidrofex_report(state, JIDROFEX_STATE_WORDS, JIDROFEX_GAVE_UP + 1, fresh()), JIDROFEX_REFUSED_KIND, 0);
+        refused(on("a kind above the last, by its mark, after", text), jidrofex_report_mark(state, JIDROFEX_STATE_WORDS, mark, JIDROFEX_GAVE_UP + 1, fresh()),
+                JIDROFEX_REFUSED_KIND, 0);
+        left(on("what is refused after", text));
+    }
+}
+
 /* The paper's plan, order by order as the paper has them, with an error, a mark given up and the others run. */
 static void example_campaign(void)
 {
@@ -182,13 +209,17 @@ static void example_campaign(void)
     mark_is(0, 0, "mark=0,0\n");
     want[JIDROFEX_STATE_ERRORS] = 1;
     want_next(0, 0);
+    want[JIDROFEX_STATE_SEAT] = 1;
     reported("an error", JIDROFEX_ERROR);
     status_is("status after an error", 0, 0);
     not_twice(0, JIDROFEX_ERROR);
+    seats_are(4, 0, 0);
     mark_is(0, 0, "mark=0,0\n");
     want[JIDROFEX_STATE_ERRORS] = 2;
     want_next(0, 0);
+    want[JIDROFEX_STATE_SEAT] = 1;
     reported_mark("an error by its mark", 0, JIDROFEX_ERROR);
+    seats_are(4, 0, 0);
     mark_is(0, 0, "mark=0,0\n");
     want[JIDROFEX_STATE_COVERED] = 1;
     want_next(0, 1);
@@ -230,6 +261,51 @@ static void example_campaign(void)
     order_is(JIDROFEX_END, 5, 0, 0, "end=5\n");
     status_is("status after the end", 4, 7);
     not_twice(4, JIDROFEX_RAN);
+}
+
+/* Errors one after the other on 2 ports, and one on the example's 4, at the first mark of its second leg; a mark that was given up or that ran is followed by no seat. */
+static void seats(void)
+{
+    static const char plan[] = "ports=2\nlegs=2\nstart=0\nrun=0\nstart=0\nrun=0\n";
+    int times;
+    want_zeros(JIDROFEX_STATE_WORDS);
+    want[JIDROFEX_STATE_PORTS] = 2;
+    want[JIDROFEX_STATE_LEGS] = 2;
+    want_panel("21");
+    gives_nothing("begin", jidrofex_begin(bytes_of(plan), strlen(plan), state, JIDROFEX_STATE_WORDS, fresh()));
+    left("begin");
+    mark_is(0, 0, "mark=0,0\n");
+    want[JIDROFEX_STATE_OPEN] = 1;
+    want_next(1, 0);
+    reported("given up, and no seat", JIDROFEX_GAVE_UP);
+    mark_is(1, 0, "mark=1,0\n");
+    for (times = 1; times <= 2; times++) {
+        want[JIDROFEX_STATE_ERRORS]++;
+        want_next(1, 0);
+        want[JIDROFEX_STATE_SEAT] = 1;
+        reported_mark("an error on 2 ports", 1, JIDROFEX_ERROR);
+        seats_are(2, 1, 0);
+        mark_is(1, 0, "mark=1,0\n");
+    }
+    want[JIDROFEX_STATE_COVERED] = 1;
+    want[JIDROFEX_STATE_ENDED] = 1;
+    want_next(1, 0);
+    reported("ran, and no seat", JIDROFEX_RAN);
+    order_is(JIDROFEX_END, 2, 0, 0, "end=2\n");
+
+    /* mark 3 of the example, of rank 8, 2143 */
+    want_example(JIDROFEX_STATE_WORDS);
+    want_panel("2143");
+    want_next(1, 0);
+    want[JIDROFEX_STATE_COVERED] = 3;
+    want[JIDROFEX_STATE_STANDING] = 1;
+    memcpy(state, want, sizeof state);
+    want[JIDROFEX_STATE_ERRORS] = 1;
+    want_next(1, 0);
+    want[JIDROFEX_STATE_SEAT] = 1;
+    reported_mark("an error at mark 3", 3, JIDROFEX_ERROR);
+    seats_are(4, 3, 8);
+    mark_is(3, 8, "mark=3,8\n");
 }
 
 /* Two swaps are two orders: from rank 2 of 4 to rank 3. Before the first mark the panel is carried from home to 4321: jack 1 gets port 4 from jack 3. */
@@ -281,7 +357,9 @@ static void errors(void)
     memcpy(state, want, sizeof state);
     want[JIDROFEX_STATE_ERRORS] = 65535;
     want[JIDROFEX_STATE_STANDING] = 0;
+    want[JIDROFEX_STATE_SEAT] = 1;
     reported("the last error", JIDROFEX_ERROR);
+    seats_are(4, 0, 0);
     mark_is(0, 0, "mark=0,0\n");
     refused("one error more", jidrofex_report(state, JIDROFEX_STATE_WORDS, JIDROFEX_ERROR, fresh()), JIDROFEX_REFUSED_ERRORS, 0);
     left("one error more");
@@ -313,6 +391,14 @@ static void is_unfit_with(const char *what, const char *ports)
 {
     const fault wanted = {JIDROFEX_REFUSED_UNFIT, 0, 0};
     does_not_resume(what, ports, wanted);
+}
+
+/* The panel of the state, without a call. */
+static void lay_state(const char *ports)
+{
+    size_t j;
+    for (j = 0; ports[j]; j++)
+        state[JIDROFEX_STATE_PANEL + j] = port_of(ports[j]);
 }
 
 /* Words that are no state, and states that are unfit: each call on a state refuses them before all else, and leaves them. */
@@ -358,7 +444,9 @@ static void unfit_states(void)
         {"open before the first mark", JIDROFEX_STATE_OPEN, 1},
         {"errors above 65,535", JIDROFEX_STATE_ERRORS, 65536},
         {"standing that is neither", JIDROFEX_STATE_STANDING, 2},
-        {"ended before the last mark", JIDROFEX_STATE_ENDED, 1}
+        {"ended before the last mark", JIDROFEX_STATE_ENDED, 1},
+        {"a jack to seat above the ports", JIDROFEX_STATE_SEAT, 5},
+        {"jack 260 to seat", JIDROFEX_STATE_SEAT, 256 + 4}
     };
     size_t k;
     for (k = 0; k < sizeof wrong / sizeof wrong[0]; k++) {
@@ -369,9 +457,45 @@ static void unfit_states(void)
     set_example(JIDROFEX_STATE_WORDS);
     unfit_with_any_panel("a word too few", JIDROFEX_STATE_WORDS - 1);
     unfit_with_any_panel("a word too many", JIDROFEX_STATE_WORDS + 1);
+    unfit_with_any_panel("61 words, a state that cannot seat", 61);
     set_example(JIDROFEX_REHEARSAL_WORDS);
     unfit_with_any_panel("a rehearsal", JIDROFEX_REHEARSAL_WORDS);
     refused("status of no words", jidrofex_status(NULL, 0, fresh()), JIDROFEX_REFUSED_UNFIT, 0);
+
+    /* a jack to seat while a mark stands, and at the end; else it is no fault, also where no error is counted */
+    set_example(JIDROFEX_STATE_WORDS);
+    state[JIDROFEX_STATE_SEAT] = 3;
+    want[JIDROFEX_STATE_SEAT] = 4;
+    order_is(JIDROFEX_SEAT, 3, 0, 0, "seat=3\n");
+    set_example(JIDROFEX_STATE_WORDS);
+    state[JIDROFEX_STATE_STANDING] = 1;
+    state[JIDROFEX_STATE_SEAT] = 1;
+    unfit_with_any_panel("a jack to seat while a mark stands", JIDROFEX_STATE_WORDS);
+    set_example(JIDROFEX_STATE_WORDS);
+    state[JIDROFEX_STATE_LEG] = 1;
+    state[JIDROFEX_STATE_STEP] = 1;
+    state[JIDROFEX_STATE_COVERED] = 5;
+    state[JIDROFEX_STATE_ENDED] = 1;
+    state[JIDROFEX_STATE_SEAT] = 1;
+    lay_state("4123");
+    unfit_with_any_panel("a jack to seat at the end", JIDROFEX_STATE_WORDS);
+    refused("resume at the end while seating", jidrofex_resume(state, JIDROFEX_STATE_WORDS, laid("4123"), 4, fresh()), JIDROFEX_REFUSED_UNFIT, 0);
+    left("resume at the end while seating");
+
+    /* a jack to seat with another panel than the mark's: before a leg's first mark too, where else any permutation is taken, and on the way inside a leg */
+    set_example(JIDROFEX_STATE_WORDS);
+    state[JIDROFEX_STATE_SEAT] = 4;
+    lay_state("1234");
+    unfit("a jack to seat on another panel", JIDROFEX_STATE_WORDS);
+    is_unfit_with("resume while seating", "1234");
+    want[JIDROFEX_STATE_SEAT] = 1;
+    resumes("resume while seating", "2341");
+    state[JIDROFEX_STATE_STEP] = 1;
+    state[JIDROFEX_STATE_COVERED] = 1;
+    lay_state("2341");
+    unfit("a jack to seat on the panel of the mark before", JIDROFEX_STATE_WORDS);
+    memcpy(want, state, sizeof want);
+    is_unfit_with("resume while seating", "2341");
 
     /* a panel that is none, or goes on beyond the ports: it is put right by the one that is read back */
     set_example(JIDROFEX_STATE_WORDS);
@@ -418,6 +542,32 @@ static void going_on(void)
     resumes("resume after an order", "2341");
     movement_is(JIDROFEX_TURN, 1, 2, 3, "turn=1,2,3\n", "3421");
     resumes("resume after an order", "3421");
+    mark_is(1, 1, "mark=1,1\n");
+
+    /* while seating the mark's pattern alone, and the seats begin anew: after the error, after a seat, before the last; when the last is given there are none */
+    want[JIDROFEX_STATE_ERRORS] = 1;
+    want_next(0, 1);
+    want[JIDROFEX_STATE_SEAT] = 1;
+    reported("an error", JIDROFEX_ERROR);
+    is_unfit_with("resume while seating", "2341");
+    resumes("resume before the first seat", "3421");
+    for (k = 1; k <= 3; k++) {
+        size_t jack;
+        for (jack = 1; jack <= k; jack++) {
+            char text[WHOLE];
+            sprintf(text, "seat=%lu\n", (unsigned long)jack);
+            want[JIDROFEX_STATE_SEAT] = jack + 1;
+            order_is(JIDROFEX_SEAT, jack, 0, 0, text);
+        }
+        is_unfit_with("resume after a seat", "2341");
+        is_unfit_with("resume after a seat", "1234");
+        want[JIDROFEX_STATE_SEAT] = 1;
+        resumes("resume after a seat", "3421");
+    }
+    seats_are(4, 1, 1);
+    resumes("resume after the last seat", "3421");
+    resumes("resume on the panel of the mark before, when no jack is to be seated", "2341");
+    movement_is(JIDROFEX_TURN, 1, 2, 3, "turn=1,2,3\n", "3421");
     mark_is(1, 1, "mark=1,1\n");
 }
 

@@ -14,7 +14,7 @@ BEGIN {
         " carry:carry write_line:writeLine read_line:readLine begin:15+readPlan named:named status:status request:asked report:reported report_mark:reportedMark" \
         " resume:resume rehearse:15+rehearse orders:fill refusal_words:refusalWords refusal_sentence:refusalSentence version:never"
     # the constants that have the header's name, less its beginning
-    names = " VERSION MOST_PORTS MOST_LEGS ANSWER_WORDS LINE_WORDS GAP_NUMBERS NOTHING SWAP TURN MARK END TWO_SWAPS RAN ERROR GAVE_UP "
+    names = " VERSION MOST_PORTS MOST_LEGS ANSWER_WORDS LINE_WORDS GAP_NUMBERS NOTHING SWAP TURN MARK END TWO_SWAPS SEAT RAN ERROR GAVE_UP "
     sort_of["u8"] = "uint8_t"; sort_of["u64"] = "uint64_t"; sort_of["i64"] = "int64_t"; sort_of["usize"] = "size_t"
 }
 

@@ -36,6 +36,7 @@ int main(void)
     named_ranks();
     plans(begin);
     example_campaign();
+    seats();
     two_swaps();
     longest_line();
     errors();

@@ -40,7 +40,9 @@ static const struct {
     {JIDROFEX_MARK, BEFORE_LAST_LEG, LAST_RANK_OF_20, "0", LONGEST_LINE},
     {JIDROFEX_MARK, "18446744073709551615", "18446744073709551615", "0", "mark=18446744073709551615,18446744073709551615\n"},
     {JIDROFEX_END, "5", "0", "0", "end=5\n"},
-    {JIDROFEX_END, "18446744073709551615", "0", "0", "end=18446744073709551615\n"}
+    {JIDROFEX_END, "18446744073709551615", "0", "0", "end=18446744073709551615\n"},
+    {JIDROFEX_SEAT, "1", "0", "0", "seat=1\n"},
+    {JIDROFEX_SEAT, "20", "0", "0", "seat=20\n"}
 };
 
 /* Lines that there are not: of no line's kind, or with jacks that no panel has, equal, or in another order. */
@@ -49,7 +51,7 @@ static const struct {
 } out_of_shape[] = {
     {JIDROFEX_NOTHING, 1, 2, 0},
     {JIDROFEX_TWO_SWAPS, 1, 2, 3},
-    {JIDROFEX_TWO_SWAPS + 1, 1, 2, 3},
+    {JIDROFEX_SEAT + 1, 1, 2, 3},
     {256 + JIDROFEX_SWAP, 1, 2, 0},
     {JIDROFEX_SWAP, 2, 1, 0},
     {JIDROFEX_SWAP, 2, 2, 0},
@@ -58,7 +60,10 @@ static const struct {
     {JIDROFEX_SWAP, 1, 256 + 2, 0},
     {JIDROFEX_TURN, 2, 1, 3},
     {JIDROFEX_TURN, 1, 2, 2},
-    {JIDROFEX_TURN, 1, 2, JIDROFEX_MOST_PORTS + 1}
+    {JIDROFEX_TURN, 1, 2, JIDROFEX_MOST_PORTS + 1},
+    {JIDROFEX_SEAT, 0, 0, 0},
+    {JIDROFEX_SEAT, JIDROFEX_MOST_PORTS + 1, 0, 0},
+    {JIDROFEX_SEAT, 256 + 1, 0, 0}
 };
 
 /* ---- a panel */
@@ -102,7 +107,8 @@ static void panel_faults(void)
     }
 }
 
-/* A swap; a turn, where jack a gets what b held, b what c held, c what a held; a mark and an end. What a line's kind has no use for is not looked at. */
+/* A swap; a turn, where jack a gets what b held, b what c held, c what a held; a mark, an end and a seat, which leave the panel. What a line's kind has no use for
+ * is not looked at. */
 static void carries(void)
 {
     size_t k;
@@ -117,6 +123,17 @@ static void carries(void)
     stands("carry a mark", "1234");
     gives_nothing("carry an end", jidrofex_carry(laid("1234"), 4, line_of(JIDROFEX_END, 5, 999, 999), fresh()));
     stands("carry an end", "1234");
+    for (k = 1; k <= 4; k++) {
+        gives_nothing("carry a seat", jidrofex_carry(laid("2143"), 4, line_of(JIDROFEX_SEAT, k, 999, 999), fresh()));
+        stands("carry a seat", "2143");
+        line_stays("carry a seat", JIDROFEX_SEAT, k, 999, 999);
+    }
+    gives_nothing("carry a seat, the last of 20", jidrofex_carry(laid(HOME_OF_20), 20, line_of(JIDROFEX_SEAT, 20, 0, 0), fresh()));
+    stands("carry a seat, the last of 20", HOME_OF_20);
+    refused("carry a seat above the panel's", jidrofex_carry(laid("2341"), 4, line_of(JIDROFEX_SEAT, 5, 0, 0), fresh()), JIDROFEX_REFUSED_SHAPE, 0);
+    stands("carry a seat above the panel's", "2341");
+    refused("carry a seat above the panel's, of 2", jidrofex_carry(laid("21"), 2, line_of(JIDROFEX_SEAT, 3, 0, 0), fresh()), JIDROFEX_REFUSED_SHAPE, 0);
+    stands("carry a seat above the panel's, of 2", "21");
     refused("carry to a jack above the panel's", jidrofex_carry(laid("2341"), 4, line_of(JIDROFEX_SWAP, 1, 5, 0), fresh()), JIDROFEX_REFUSED_SHAPE, 0);
     stands("carry to a jack above the panel's", "2341");
     for (k = 0; k < sizeof out_of_shape / sizeof out_of_shape[0]; k++) {
@@ -150,7 +167,17 @@ static const struct {
     {"swap=2,1\n", JIDROFEX_REFUSED_SHAPE},
     {"swap=1,21\n", JIDROFEX_REFUSED_SHAPE},
     {"swap=1,258\n", JIDROFEX_REFUSED_SHAPE},
-    {"turn=1,2,2\n", JIDROFEX_REFUSED_SHAPE}
+    {"turn=1,2,2\n", JIDROFEX_REFUSED_SHAPE},
+    {"seat=1", JIDROFEX_REFUSED_ENDED},
+    {"seat\n", JIDROFEX_REFUSED_KEY},
+    {"seats=1\n", JIDROFEX_REFUSED_KEY},
+    {"seat=\n", JIDROFEX_REFUSED_NUMBER},
+    {"seat=01\n", JIDROFEX_REFUSED_NUMBER},
+    {"seat=1,2\n", JIDROFEX_REFUSED_NUMBER},
+    {"seat=18446744073709551616\n", JIDROFEX_REFUSED_NUMBER},
+    {"seat=0\n", JIDROFEX_REFUSED_SHAPE},
+    {"seat=21\n", JIDROFEX_REFUSED_SHAPE},
+    {"seat=257\n", JIDROFEX_REFUSED_SHAPE}
 };
 
 static void lines_written(void)
@@ -174,6 +201,8 @@ static void lines_written(void)
     same("the longest line of a campaign", strlen(LONGEST_LINE), JIDROFEX_LINE_BYTES);
     gives_one("write_line, a word that no end has", jidrofex_write_line(line_of(JIDROFEX_END, 5, 999, 999), room(), 6, fresh()), 6);
     written("write_line, a word that no end has", "end=5\n");
+    gives_one("write_line, a word that no seat has", jidrofex_write_line(line_of(JIDROFEX_SEAT, 7, 999, 999), room(), 7, fresh()), 7);
+    written("write_line, a word that no seat has", "seat=7\n");
     for (k = 0; k < sizeof out_of_shape / sizeof out_of_shape[0]; k++) {
         refused("write_line out of shape, in no room",
                 jidrofex_write_line(line_of(out_of_shape[k].kind, out_of_shape[k].a, out_of_shape[k].b, out_of_shape[k].c), NULL, 0, fresh()),

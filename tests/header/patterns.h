@@ -32,8 +32,8 @@ static void the_library(void)
 {
     size_t k, longest = 0;
     gives_one("version", jidrofex_version(fresh()), JIDROFEX_VERSION);
-    /* the words of a state that these tests know, place by place, are the first that there were */
-    same("the version of a state's words", JIDROFEX_STATE_VERSION, 1);
+    /* the words of a state that these tests know, place by place, are of this version */
+    same("the version of a state's words", JIDROFEX_STATE_VERSION, 2);
 
     for (k = 0; k < sizeof refusals / sizeof refusals[0]; k++) {
         const char *words = refusals[k].words;
