@@ -220,6 +220,17 @@ cuts_seated() {
     fi
 }
 
+# cuts_shown PAGE: the orders that the page shows after an error are the first that come with a half seated cord
+cuts_shown() {
+    sed -n '/^##* After an error$/,/^#/s/^    \([a-z]*=[0-9,]*\).*/\1/p' "$1" >"$cuts_out/shown"
+    if [ "$(grep -c seat "$cuts_out/shown")" -eq 4 ] && head -n "$(wc -l <"$cuts_out/shown")" "$cuts_out/output_half" | cmp -s - "$cuts_out/shown"; then
+        pass "cuts: $1 shows the orders that come after an error"
+    else
+        cat "$cuts_out/shown"
+        fail "cuts: $1 shows other orders than come after an error"
+    fi
+}
+
 # C and Rust by turns, each killed when it has made one call
 cuts_turns() {
     cuts_desk
@@ -302,6 +313,8 @@ if [ -f "$cuts_archive" ]; then
         cuts_over rust c
         cuts_seated c rust
         cuts_seated rust c
+        cuts_shown docs/PLANS.md
+        cuts_shown docs/USING.md
         cuts_turns
         cuts_alike
         cuts_each c rust
