@@ -117,7 +117,7 @@ static int go_on(const char *name, uint64_t *state)
                 return refused("report", number, answer);
             if (keep_write(name, state) != 0)
                 return 1;
-        } else { /* none stands: the next order is asked for; only when that is saved it is shown and obeyed */
+        } else { /* none stands: the next order is asked for, saved, shown and obeyed in turn; a seat is saved last */
             number = jidrofex_request(state, JIDROFEX_STATE_WORDS, line, sizeof line, answer);
             if (number != 0)
                 return refused("request", number, answer);

@@ -53,7 +53,7 @@ fn go_on(name: &Path, state: &mut State, bench: &Bench) -> Result<(), String> {
             jidrofex::report_mark(state, status.mark, kind)?;
             keep::write(name, state)?;
         } else {
-            // the next order is asked for; only when that is saved it is shown and obeyed
+            // the next order is asked for, saved, shown and obeyed in turn; a seat is saved last
             let (order, line) = jidrofex::request(state)?;
             if order[0] != SEAT {
                 keep::write(name, state)?;
