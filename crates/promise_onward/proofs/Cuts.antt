@@ -52,36 +52,31 @@ module _ (C : Setting) (lawful : Lawful (C .family)) (accepted : Accepted (C .fa
     does : Does C s c (answer C c s) (left C c s)
     does = does-so C s f c
 
-    -- a fit state with its past is taken up where the panel makes it of the saved one
-    takes-up : (q : List ℕ) (x y : State) (b' : Past) → Fit C y → Agrees C y b' → withPanel q x ≡ y → TakenUp C q x (anew y) b'
-    takes-up q x y b' fy gy e = record {
-      judged = subst (Fit C) (sym e) fy;
-      same = ap anew e;
-      fits = fit-anew C y fy;
-      panel = ap (λ (z : State). z .panel) e;
-      past = agrees-anew C y b' gy;
-    }
-
-    -- the state before the call
-    as-before : (q : List ℕ) (x : State) → withPanel q x ≡ s → TakenUp C q x (anew s) b
-    as-before q x e = takes-up q x s b f g e
+    -- the state before the call is taken up
+    as-before : (q : List ℕ) (x : State) → withPanel q x ≡ s → TakenUp C q x s b
+    as-before q x e = record { same = e; fits = f; panel = ap (λ (y : State). y .panel) e; past = g }
 
     -- or the one after it
-    as-after : (q : List ℕ) (x : State) → withPanel q x ≡ left C c s → TakenUp C q x (anew (left C c s)) (pastLeft C b c s)
-    as-after q x e = takes-up q x (left C c s) (pastLeft C b c s) (fit-after C lawful accepted f does) (past-on C lawful accepted b f g does) e
+    as-after : (q : List ℕ) (x : State) → withPanel q x ≡ left C c s → TakenUp C q x (left C c s) (pastLeft C b c s)
+    as-after q x e = record {
+      same = e;
+      fits = fit-after C lawful accepted f does;
+      panel = ap (λ (y : State). y .panel) e;
+      past = past-on C lawful accepted b f g does;
+    }
 
-    -- after a cut one of the two is, its seats begun anew, with what happened on the bench before it: so no order is lost or done twice
-    pub cut-so : (x : State) (q : List ℕ) → Cut C c s x q → TakenUp C q x (anew s) b ⊎ TakenUp C q x (anew (left C c s)) (pastLeft C b c s)
+    -- after a cut one of the two is, with what happened on the bench before it: so no order is lost or done twice
+    pub cut-so : (x : State) (q : List ℕ) → Cut C c s x q → TakenUp C q x s b ⊎ TakenUp C q x (left C c s) (pastLeft C b c s)
     cut-so x q k = either (panel-only does) by-panel by-saved
       where
-        by-panel : SavedFor (left C c s) s → TakenUp C q x (anew s) b ⊎ TakenUp C q x (anew (left C c s)) (pastLeft C b c s)
+        by-panel : SavedFor (left C c s) s → TakenUp C q x s b ⊎ TakenUp C q x (left C c s) (pastLeft C b c s)
         by-panel e =
             let same : withPanel q x ≡ withPanel q s = put-either q s (left C c s) x e (k .saved) in
             either (k .read)
             (λ h. inl (as-before q x (same ∙ put-own q s h)))
             (λ h. inr (as-after q x (same ∙ ap (λ p. withPanel p s) h ∙ e)))
 
-        by-saved : left C c s .panel ≡ s .panel → TakenUp C q x (anew s) b ⊎ TakenUp C q x (anew (left C c s)) (pastLeft C b c s)
+        by-saved : left C c s .panel ≡ s .panel → TakenUp C q x s b ⊎ TakenUp C q x (left C c s) (pastLeft C b c s)
         by-saved e =
             let read : q ≡ s .panel = either (k .read) (λ h. h) (λ h. h ∙ e) in
             either (k .saved)
@@ -97,14 +92,14 @@ module _ (C : Setting) (lawful : Lawful (C .family)) (accepted : Accepted (C .fa
         let h = shows C lawful accepted s f c (seat j) e in
         let n : ℕ = C .family .ports in
         let begun : anew s ≡ withSeat 1 s = anew-seating s (omega (arith, h .0, h .1)) in
-        either (cut-so x q k) (λ u. inl (u .same ∙ begun)) (λ u.
+        either (cut-so x q k) (λ u. inl (ap anew (u .same) ∙ begun)) (λ u.
         either (is-cases j n 0 (suc j))
         (λ i.
         let over : left C c s ≡ withSeat 0 s = h .2 ∙ ap (λ z. withSeat z s) (i .1) in
-        inr (i .0, u .same ∙ anew-settled (left C c s) (omega (arith, ap (λ (y : State). y .toSeat) over))))
+        inr (i .0, ap anew (u .same) ∙ anew-settled (left C c s) (omega (arith, ap (λ (y : State). y .toSeat) over))))
         (λ i.
         let next : left C c s ≡ withSeat (suc j) s = h .2 ∙ ap (λ z. withSeat z s) (i .1) in
-        inl (u .same ∙ ap anew next ∙ anew-seating (withSeat (suc j) s) (omega arith))))
+        inl (ap anew (u .same ∙ next) ∙ anew-seating (withSeat (suc j) s) (omega arith))))
 
     -- ---- a cut in a request that gives an order
 
@@ -117,15 +112,6 @@ module _ (C : Setting) (lawful : Lawful (C .family)) (accepted : Accepted (C .fa
       -- so the two states differ in the panel alone
       panel-alone : SavedFor (left C c s) s
       panel-alone = ap (λ (y : State). withPanel (y .panel) s) left-order ∙ sym left-order
-
-      -- and in neither is a jack to be seated
-      before-settled : anew s ≡ s
-      before-settled = anew-settled s (omega (arith, shows C lawful accepted s f c (movement o) given .1))
-
-      after-settled : anew (left C c s) ≡ left C c s
-      after-settled =
-          anew-settled (left C c s)
-          (omega (arith, shows C lawful accepted s f c (movement o) given .1, ap (λ (y : State). y .toSeat) left-order))
 
       -- the order is one more since the last mark
       past-order : pastLeft C b c s ≡ andThen b (s .panel) (moves o)
@@ -140,24 +126,22 @@ module _ (C : Setting) (lawful : Lawful (C .family)) (accepted : Accepted (C .fa
 
       -- whichever state is saved: where the robot did not obey, the state before the order is taken up, and the order is asked again
       pub not-obeyed : (x : State) (q : List ℕ) → SavedFor s x ⊎ SavedFor (left C c s) x → q ≡ s .panel → TakenUp C q x s b
-      not-obeyed x q h e =
-          subst (λ y. TakenUp C q x y b) before-settled (as-before q x (put-either q s (left C c s) x panel-alone h ∙ put-own q s e))
+      not-obeyed x q h e = as-before q x (put-either q s (left C c s) x panel-alone h ∙ put-own q s e)
 
       -- where it obeyed, the state after it, with the order among those since the last mark
       pub obeyed : (x : State) (q : List ℕ) → SavedFor s x ⊎ SavedFor (left C c s) x → q ≡ left C c s .panel
           → TakenUp C q x (left C c s) (andThen b (s .panel) (moves o))
       obeyed x q h e =
-          subst (λ y. TakenUp C q x y (andThen b (s .panel) (moves o))) after-settled
-          (subst (TakenUp C q x (anew (left C c s))) past-order
-          (as-after q x (put-either q s (left C c s) x panel-alone h ∙ ap (λ p. withPanel p s) e ∙ panel-alone)))
+          subst (TakenUp C q x (left C c s)) past-order
+          (as-after q x (put-either q s (left C c s) x panel-alone h ∙ ap (λ p. withPanel p s) e ∙ panel-alone))
 
   -- ---- going on
 
   module _ (q : List ℕ) (x y : State) (b : Past) (u : TakenUp C q x y b) where
-    -- what is taken up is not refused
-    pub taken-goes-on : resume C q x ≡ goesOn y
-    taken-goes-on = goes-on C q x (u .judged) ∙ ap goesOn (u .same)
+    -- what is taken up is not refused, and its seats begin anew
+    pub taken-goes-on : resume C q x ≡ goesOn (anew y)
+    taken-goes-on = goes-on C q x (subst (Fit C) (sym (u .same)) (u .fits)) ∙ ap (λ z. goesOn (anew z)) (u .same)
 
     -- and demand three holds from there on, on the bench as it is and with what happened on it before
-    pub taken-onward : (cs : List Call) → Onward C q y b (run C cs y) (acts (run C cs y)) (leaves y (run C cs y))
-    taken-onward cs = onward C lawful accepted y (u .fits) b (u .past) cs q (u .panel)
+    pub taken-onward : (cs : List Call) → let z = anew y in Onward C q z b (run C cs z) (acts (run C cs z)) (leaves z (run C cs z))
+    taken-onward cs = onward C lawful accepted (anew y) (fit-anew C y (u .fits)) b (agrees-anew C y b (u .past)) cs q (u .panel)

@@ -14,7 +14,7 @@ use Rattle.promise.specs.Onward.{Past, Agrees, firstPast, andThen, andAll}
 use Rattle.promise.proofs.Steps.{History, fit-first, fit-last, history}
 use Rattle.promise.proofs.Past.{past-after}
 use Rattle.promise.proofs.Promise.{agrees-first, promise}
-use Rattle.promise_onward.specs.Resume.{Settled, resumed}
+use Rattle.promise_onward.specs.Resume.{anew, Settled, resumed}
 use Rattle.promise_onward.specs.Cuts.{left, pastAfter, Cut}
 use Rattle.promise_onward.proofs.Panels.{anew-settled}
 use Rattle.promise_onward.proofs.Cuts.{cut-so}
@@ -102,8 +102,8 @@ module _ (C : Setting) (lawful : Lawful (C .family)) (accepted : Accepted (C .fa
   unfolding run
   cut-joined c x q a z k ds =
       either (cut-so C lawful accepted c (leftBy C cs) (fit-last told) (pastAfter C cs) agrees-left x q k)
-      (λ u. inl (ap (λ y. turns C cs ++ run C ds y) (u .same ∙ anew-settled (leftBy C cs) a) ∙ sym (run-append C cs ds (first C))))
-      (λ u. inr (ap (λ y. turns C cs ++ (run C (c ∷ []) (leftBy C cs) ++ run C ds y)) (u .same ∙ anew-settled (left C c (leftBy C cs)) z) ∙ sym (run-append C cs (c ∷ ds) (first C))))
+      (λ u. inl (ap (λ y. turns C cs ++ run C ds y) (ap anew (u .same) ∙ anew-settled (leftBy C cs) a) ∙ sym (run-append C cs ds (first C))))
+      (λ u. inr (ap (λ y. turns C cs ++ (run C (c ∷ []) (leftBy C cs) ++ run C ds y)) (ap anew (u .same) ∙ anew-settled (left C c (leftBy C cs)) z) ∙ sym (run-append C cs (c ∷ ds) (first C))))
 
   -- so demand three holds of the turns before the cut and after it together
   pub cut-demand : (c : Call) (x : State) (q : List ℕ) → Settled (leftBy C cs) → Settled (left C c (leftBy C cs)) → Cut C c (leftBy C cs) x q → (ds : List Call)

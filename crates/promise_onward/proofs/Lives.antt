@@ -155,7 +155,7 @@ module _ (C : Setting) (lawful : Lawful (C .family)) (accepted : Accepted (C .fa
   -- a cut takes up the state before its call or the one after it, its seats begun anew
   cut-state : (c : Call) (s : State) → Fit C s → (x : State) (q : List ℕ) → Cut C c s x q → (resumed q x ≡ anew s) ⊎ (resumed q x ≡ anew (left C c s))
   cut-state c s f x q k =
-      either (cut-so C lawful accepted c s f (pastOf C s) (own-past C lawful accepted s f) x q k) (λ u. inl (u .same)) (λ u. inr (u .same))
+      either (cut-so C lawful accepted c s f (pastOf C s) (own-past C lawful accepted s f) x q k) (λ u. inl (ap anew (u .same))) (λ u. inr (ap anew (u .same)))
 
   -- and what it takes up is fit
   taken-fit : (c : Call) (s : State) → Fit C s → (x : State) (q : List ℕ) → Cut C c s x q → Fit C (resumed q x)
@@ -164,7 +164,7 @@ module _ (C : Setting) (lawful : Lawful (C .family)) (accepted : Accepted (C .fa
       (λ e. subst (Fit C) (sym e) (fit-anew C s f)) (λ e. subst (Fit C) (sym e) (fit-anew C (left C c s) (left-fit C lawful accepted s f c)))
 
   -- a call leaves a settled state, or it is one of a row of seats, and begun anew the row is the same before and after it
-  settled-or-row : {s t : State} {c : Call} {a : Answer} → Fit C s → Does C s c a t → Settled t ⊎ (OfRow a × (anew t ≡ anew s))
+  pub settled-or-row : {s t : State} {c : Call} {a : Answer} → Fit C s → Does C s c a t → Settled t ⊎ (OfRow a × (anew t ≡ anew s))
   settled-or-row f (moves-on o os st en ns w) = inl (omega arith)
   settled-or-row {s} f (seats-on sn) =
       either (is-cases (s .toSeat) (C .family .ports) 0 (suc (s .toSeat)))

@@ -23,9 +23,8 @@ use Rattle.promise.proofs.Steps.{Does, moves-on, seats-on, hands-out, ends, clo
 use Rattle.promise.proofs.Marks.{closed-so, closing-left}
 use Rattle.promise.proofs.Past.{past-after}
 use Rattle.promise.proofs.Onward.{onward-fit}
-use Rattle.promise_onward.specs.Resume.{anew, TakenUp}
+use Rattle.promise_onward.specs.Resume.{TakenUp}
 use Rattle.promise_onward.specs.Cuts.{left, SavedFor, OnlyOrders}
-use Rattle.promise_onward.proofs.Panels.{fit-anew, agrees-anew}
 use Rattle.promise_onward.proofs.Calls.{Handed, left-fit, shows}
 
 -- a call for whose refusal there is a reason leaves the state
@@ -138,20 +137,16 @@ pub orders-any-saved : {C : Setting} {s : State} {ts us : List Turn} → History
     → SavedFor (leaves s us) (leaves s ts)
 orders-any-saved {s = s} {us = us} x h y i = ap (withPanel (leaves s us .panel)) (sym (orders-unsaved x h)) ∙ orders-unsaved y i
 
--- so after a cut in a row of orders, of which cs were asked for when the state was last saved and ds are carried out, the state after ds is taken up (its seats,
--- where no order came since an error, begun anew)
+-- so after a cut in a row of orders, of which cs were asked for when the state was last saved and ds are carried out, the state after ds is taken up
 pub row-taken : (C : Setting) (lawful : Lawful (C .family)) (accepted : Accepted (C .family) (C .legs)) (s : State) → Fit C s → (b : Past) → Agrees C s b
     → (cs ds : List Call) → OnlyOrders (acts (run C cs s)) → OnlyOrders (acts (run C ds s)) → (q : List ℕ) → q ≡ leaves s (run C ds s) .panel
-    → TakenUp C q (leaves s (run C cs s)) (anew (leaves s (run C ds s))) (andAll b (s .panel) (acts (run C ds s)))
+    → TakenUp C q (leaves s (run C cs s)) (leaves s (run C ds s)) (andAll b (s .panel) (acts (run C ds s)))
 row-taken C lawful accepted s f b g cs ds x y q e =
     let h : History C s (run C cs s) = history C lawful accepted cs s f in
     let k : History C s (run C ds s) = history C lawful accepted ds s f in
-    let made : withPanel q (leaves s (run C cs s)) ≡ leaves s (run C ds s) =
-    ap (λ p. withPanel p (leaves s (run C cs s))) e ∙ orders-any-saved h x k y in
     record {
-      judged = subst (Fit C) (sym made) (fit-last k);
-      same = ap anew made;
-      fits = fit-anew C (leaves s (run C ds s)) (fit-last k);
+      same = ap (λ p. withPanel p (leaves s (run C cs s))) e ∙ orders-any-saved h x k y;
+      fits = fit-last k;
       panel = e;
-      past = agrees-anew C (leaves s (run C ds s)) (andAll b (s .panel) (acts (run C ds s))) (past-after C lawful accepted b g k);
+      past = past-after C lawful accepted b g k;
     }

@@ -38,11 +38,10 @@ pub record MayStand (C : Setting) (s : State) (q : List ℕ) : Type 0 where
   pub between : s .standing ≡ false → s .ended ≡ false → OnTheWay (C .family) (here C s) (s .step) q
   pub atSeat : 0 < s .toSeat → q ≡ wanted C s
 
--- the saved state x with the panel q is fit, and goes on as the state y: that is fit, its panel is the bench's, and what went before it, as it happened on the
--- bench, is b
+-- the saved state x with the panel q is the state y, which goes on with its seats begun anew: it is fit, its panel is the bench's, and what went before it, as it
+-- happened on the bench, is b
 pub record TakenUp (C : Setting) (q : List ℕ) (x y : State) (b : Past) : Type 0 where
-  pub judged : Fit C (withPanel q x)
-  pub same : resumed q x ≡ y
+  pub same : withPanel q x ≡ y
   pub fits : Fit C y
   pub panel : q ≡ y .panel
   pub past : Agrees C y b
