@@ -43,6 +43,10 @@ fn obey(panel: &mut [u8], line: Line) {
             says::pattern(panel);
             says::end(good);
         }
+        Line::Seat(_) => {
+            says::text(b"example: a seat, with no error before it");
+            says::end(false);
+        }
         Line::Mark(number, wanted) => {
             let meets = met(panel, number, wanted);
             says::end(good && meets);

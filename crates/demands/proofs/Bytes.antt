@@ -24,7 +24,7 @@ use Rattle.line_format.proofs.Inverse.{read-written, campaign-proper}
 use Rattle.panel.specs.Calls.{afterLine, carryOf, carryBytes}
 use Rattle.panel.proofs.Accepted.{carry-accepted}
 use Rattle.promise.specs.Plan.{Leg}
-use Rattle.promise.specs.Campaign.{Setting, request, reportTo, Answer, movement, mark, theEnd, taken, refusal, first}
+use Rattle.promise.specs.Campaign.{Setting, request, reportTo, Answer, movement, seat, mark, theEnd, taken, refusal, first}
 use Rattle.promise.specs.Campaign as model
 use Rattle.promise.specs.Bench.{Act, moves, inFront, acts}
 use Rattle.promise.specs.Demand.{Demanded, FullCircuit}
@@ -101,6 +101,7 @@ seen-line n (some l) buf bytes q xs h = ap (λ r. seenActs r xs) (h .reads)
 line-front : (room : ℕ) (a : Answer) (xs : List Act) → lineFront (answerLine a) xs ≡ inFront (request room) a xs
 unfolding lineFront
 line-front room (movement o) xs = ap (λ x. moves x ∷ xs) (order-there o)
+line-front room (seat j) xs = refl
 line-front room (mark k r) xs = refl
 line-front room (theEnd k) xs = refl
 line-front room taken xs = refl

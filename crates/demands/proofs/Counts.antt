@@ -14,12 +14,12 @@ use Rattle.words.proofs.Told.{then-accepted}
 use Rattle.words.proofs.Padded.{padded-length}
 use Rattle.pattern_check.specs.Calls.{checkAs}
 use Rattle.promise.specs.Campaign as model
-use Rattle.promise.specs.Campaign.{Setting, Call, request, reportTo, report, reportOf, tallied, Answer, movement, mark, theEnd, taken, refusal, closed, heard}
+use Rattle.promise.specs.Campaign.{Setting, Call, request, reportTo, report, reportOf, tallied, Answer, movement, seat, mark, theEnd, taken, refusal, closed, heard}
 use Rattle.campaign_state.specs.State.{settingOf, momentOf}
 use Rattle.campaign_state.specs.declared.State.{State}
 use Rattle.campaign_state.proofs.Places.{Sized}
 use Rattle.campaign.specs.Calls.{answerOf, after, leftOf, toldOf}
-use Rattle.campaign_onward.specs.Calls.{panelIn, fitTold, resumeOf, resumedOf, goesOn}
+use Rattle.campaign_onward.specs.Calls.{goingOn, fitTold, resumeOf, resumedOf, goesOn}
 use Rattle.campaign_onward.proofs.Resumes.{few-ports}
 use Rattle.campaign_reached.proofs.Kept.{closed-leaves, after-length}
 use Rattle.face_state.specs.States.{coveredPlace, stateAt, stateIn, within, limits, word}
@@ -49,11 +49,13 @@ heard-covered C (suc (suc k)) m = closed-covered C (tallied model.gaveUp m)
 after-covered : (c : Call) (a : Answer) (s : State) → after c a s .covered ≡ raised c a + s .covered
 unfolding model.after
 after-covered (request room) (movement o) s = omega arith
+after-covered (request room) (seat j) s = omega arith
 after-covered (request room) (mark k r) s = omega arith
 after-covered (request room) (theEnd k) s = omega arith
 after-covered (request room) taken s = omega arith
 after-covered (request room) (refusal k) s = omega arith
 after-covered (reportTo m kind) (movement o) s = omega arith
+after-covered (reportTo m kind) (seat j) s = omega arith
 after-covered (reportTo m kind) (mark k r) s = omega arith
 after-covered (reportTo m kind) (theEnd k) s = omega arith
 after-covered (reportTo m kind) taken s = heard-covered (settingOf s) kind (momentOf s)
@@ -81,6 +83,7 @@ sized-left c s z =
 -- what an answer adds, by what is told
 told-raised : (c : Call) (a : Answer) → raised c a ≡ raisedBy c (toldOf a)
 told-raised c (movement o) = refl
+told-raised c (seat j) = refl
 told-raised c (mark k r) = refl
 told-raised c (theEnd k) = refl
 told-raised c taken = refl
@@ -111,12 +114,12 @@ resumed-covered : (s : State) (p : List ℕ) → resumedOf s p .covered ≡ s .c
 unfolding resumedOf
 resumed-covered s p = by (resumeOf s p)
   where
-    by : (t : Told (Unit {0})) → goesOn t (panelIn p s) s .covered ≡ s .covered
+    by : (t : Told (Unit {0})) → goesOn t (goingOn p s) s .covered ≡ s .covered
     by (accepted x) = refl
     by (refused k q) = refl
 
 -- it leaves as many places
-sized-resumed : (s : State) (p : List ℕ) → Sized s → (t : Told (Unit {0})) → resumeOf s p ≡ t → Sized (goesOn t (panelIn p s) s)
+sized-resumed : (s : State) (p : List ℕ) → Sized s → (t : Told (Unit {0})) → resumeOf s p ≡ t → Sized (goesOn t (goingOn p s) s)
 unfolding resumeOf
 sized-resumed s p z (refused k q) e = z
 sized-resumed s p z (accepted x) e = record {
@@ -130,8 +133,8 @@ none-left : (p ws : List ℕ) → none ≡ stateIn ws → resumeWords p ws ≡ w
 unfolding resumeWords
 none-left p ws e = by (resumeTold p ws)
   where
-    by : (t : Told (Unit {0})) → leaves t (leftIn states (panelIn p) (stateIn ws) ws) ws ≡ ws
-    by (accepted x) = ap (λ o. leftIn states (panelIn p) o ws) (sym e)
+    by : (t : Told (Unit {0})) → leaves t (leftIn states (goingOn p) (stateIn ws) ws) ws ≡ ws
+    by (accepted x) = ap (λ o. leftIn states (goingOn p) o ws) (sym e)
     by (refused k q) = refl
 
 resumed-words : (p ws : List ℕ) → word (resumeWords p ws) coveredPlace ≡ word ws coveredPlace

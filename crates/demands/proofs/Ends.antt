@@ -10,11 +10,11 @@ use native.Mathlib.Omega.{arith}
 use lib.ListN.{length, length-map}
 use Rattle.listing.specs.Count.{count}
 use Rattle.promise.specs.Plan.{Leg}
-use Rattle.promise.specs.Campaign.{Setting, request, report, isError, Answer, movement, mark, theEnd, taken, refusal, offer}
+use Rattle.promise.specs.Campaign.{Setting, request, report, isError, Answer, movement, seat, mark, theEnd, taken, refusal, offer}
 use Rattle.promise.specs.Bench.{Act, inFront, acts, reports, leftBy}
 use Rattle.promise.specs.Demand.{FullCircuit}
 use Rattle.promise.specs.Derangements.{derangements, mostErrors}
-use Rattle.promise.specs.Progress.{callsToEnd, Unrefused}
+use Rattle.promise.specs.Progress.{callsToEnd, perError, Unrefused}
 use Rattle.promise.proofs.Progress as model
 use Rattle.promise.proofs.Refusals.{offered-so, no-refusal, served, ran-taken}
 use Rattle.campaign_state.specs.State.{width, momentOf}
@@ -40,6 +40,7 @@ length-prompt (suc n) buf s = ap suc (length-prompt n buf (leftOf (callOf (dueCa
 no-error : (b : Bool) (buf : List ℕ) (a : Answer) (xs : List Act) → reports isError (inFront (callOf (dueCall buf b)) a xs) ≡ reports isError xs
 unfolding reports
 no-error b buf (movement o) xs = refl
+no-error b buf (seat j) xs = refl
 no-error b buf (mark k r) xs = refl
 no-error b buf (theEnd k) xs = refl
 no-error true buf taken xs = omega arith
@@ -64,15 +65,15 @@ module _ (P : AcceptedPlan) where
     ended-so : leftBy C (map callOf cs) .ended ≡ true → leftAfter cs (begun P) .ended ≡ true
     ended-so h = ap (λ m. m .ended) (left-moment P cs) ∙ h
 
-    -- calls that are not refused reach the end, if they are as many as the plan's marks take, and two more for each error
-    pub reaches-end : callsToEnd C + 2 * reports isError (acts (turnsOf cs (begun P))) ≤ length cs → leftAfter cs (begun P) .ended ≡ true
+    -- calls that are not refused reach the end, if they are as many as the plan's marks take, and ports plus two more for each error
+    pub reaches-end : callsToEnd C + reports isError (acts (turnsOf cs (begun P))) * perError C ≤ length cs → leftAfter cs (begun P) .ended ≡ true
     reaches-end many =
         let same = turned P cs in
         ended-so (model.reaches-end C (lawful P) (accepts P) (map callOf cs) (subst Unrefused same unrefused)
-        (omega (arith, length-map cs callOf, ap (λ ts. reports isError (acts ts)) same)))
+        (omega (arith, length-map cs callOf, ap (λ ts. reports isError (acts ts) * perError C) same)))
 
     -- and so many reach it however many errors are reported
-    pub reaches-end-always : callsToEnd C + 2 * mostErrors ≤ length cs → leftAfter cs (begun P) .ended ≡ true
+    pub reaches-end-always : callsToEnd C + mostErrors * perError C ≤ length cs → leftAfter cs (begun P) .ended ≡ true
     reaches-end-always many =
         ended-so (model.reaches-end-always C (lawful P) (accepts P) (map callOf cs) (subst Unrefused (turned P cs) unrefused)
         (omega (arith, length-map cs callOf)))
@@ -99,7 +100,7 @@ module _ (P : AcceptedPlan) where
     promptly-ends =
         let cs = promptCalls (callsToEnd C) buf (begun P) in
         reaches-end cs (due-unrefused (callsToEnd C) (begun P) (reached-first P))
-        (omega (arith, no-errors (callsToEnd C) buf (begun P), length-prompt (callsToEnd C) buf (begun P)))
+        (omega (arith, ap (λ k. k * perError C) (no-errors (callsToEnd C) buf (begun P)), length-prompt (callsToEnd C) buf (begun P)))
 
     -- so on a plan of one full circuit it meets every derangement exactly once
     pub promptly-all-met : (l : Leg) → P .plan .legs ≡ l ∷ [] → suc (l .run) ≡ count (P .plan .ports)

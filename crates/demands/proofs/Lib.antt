@@ -10,6 +10,7 @@ pub mod Bytes
 pub mod Words
 pub mod Onward
 pub mod Lives
+pub mod Seats
 pub mod Repeats
 pub mod Restored
 pub mod Refusals

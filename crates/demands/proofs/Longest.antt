@@ -15,7 +15,7 @@ use Rattle.listing.specs.Limits.{mostLegs}
 use Rattle.listing.proofs.Numbers.{either, test, below?}
 use Rattle.line_format.proofs.Longest.{mark-45}
 use Rattle.promise.specs.Plan.{legAt, rankAt, ranks, number}
-use Rattle.promise.specs.Campaign.{Setting, request, reportTo, reportOf, isError, isClosing, Answer, movement, mark, theEnd, taken, refusal, fit, offer, standsFor, answer}
+use Rattle.promise.specs.Campaign.{Setting, request, reportTo, reportOf, isError, isClosing, Answer, movement, seat, mark, theEnd, taken, refusal, fit, offer, standsFor, answer}
 use Rattle.promise.specs.Campaign as model
 use Rattle.promise.specs.Bench.{Act, inFront, acts, isMark, fresh, marksMet, numbered, planned}
 use Rattle.promise.specs.Fitness.{Fit, markStands, noRoom}
@@ -80,6 +80,7 @@ all-given : (c : Called) (s : State) (a : Answer) (xs : List Act) → answerOf (
     → AllGiven s (inFront (callOf c) a xs)
 unfolding fresh
 all-given c s (movement o) xs e h again m i l = given-later c s _ (h again m i l)
+all-given c s (seat j) xs e h again m i l = given-later c s _ (h again m i l)
 all-given c s (mark k r) xs e h again m i l = by (again && isMark m k r) i l
   where
     by : (b : Bool) (i : ℕ) → i < length (cond b (fresh false (k, r) xs) ((k, r) ∷ fresh false (k, r) xs))

@@ -26,13 +26,13 @@ use Rattle.panel.specs.Calls.{onPanel, portOf, jackOf, carryOf, carryBytes}
 use Rattle.panel.proofs.Accepted.{panel-refused}
 use Rattle.panel.proofs.Refusals.{refusals}
 use Rattle.text_keys.specs.Parts.{newline, cut, afterKey}
-use Rattle.line_format.specs.Format.{Kind, swapping, turning, marking, ending, key, commas, lineOf, lineText}
+use Rattle.line_format.specs.Format.{Kind, swapping, turning, seating, marking, ending, key, commas, lineOf, lineText}
 use Rattle.line_format.specs.Calls.{roomOf, roomBytes, writeOf, writeBytes}
 use Rattle.words.specs.Shape.{lineFits}
 use Rattle.line_format.specs.Reading.{fitting, numbersIn, numbersTold, keyed, lineIn, readOf}
 use Rattle.line_refusal.specs.Words.{wordsOf, refusalWordsOf, refusalWordsBytes}
 use Rattle.line_sentence.specs.Sentences.{sentenceOf, refusalSentenceOf, refusalSentenceBytes}
-use Rattle.promise.specs.Campaign.{Setting, movement, mark, theEnd, taken, refusal, Call, request, reportTo, reportOf}
+use Rattle.promise.specs.Campaign.{Setting, movement, seat, mark, theEnd, taken, refusal, Call, request, reportTo, reportOf}
 use Rattle.promise.specs.Campaign.{isError, todo, next, offer, standsFor, answer}
 use Rattle.promise.specs.Campaign as model
 use Rattle.campaign_state.specs.State.{settingOf, momentOf}
@@ -46,7 +46,7 @@ use Rattle.printing.specs.Printing.{sequel, linesIn}
 use Rattle.printing.specs.Answers.{stopTold}
 use Rattle.printing.specs.Rehearsals.{stateOf}
 use Rattle.printing.specs.declared.Rehearsal.{Rehearsal}
-use Rattle.campaign_onward.specs.Calls.{whereOf, statusOf, panelIn, fitTold, resumeOf, resumedOf, goesOn}
+use Rattle.campaign_onward.specs.Calls.{whereOf, statusOf, panelIn, goingOn, fitTold, resumeOf, resumedOf, goesOn}
 use Rattle.printing.proofs.Refused.{refused-first, rehearsal-stays, bytes-stay as line-bytes-stay}
 use Rattle.plan_rules.specs.Planned.{Planned, device}
 use Rattle.plans.specs.Calls.{readPlanOf}
@@ -123,9 +123,10 @@ unfolding lineIn
 line-numbers t =
     keyed-numbers swapping (afterKey (key swapping) t) _
     (keyed-numbers turning (afterKey (key turning) t) _
+    (keyed-numbers seating (afterKey (key seating) t) _
     (keyed-numbers marking (afterKey (key marking) t) _
     (keyed-numbers ending (afterKey (key ending) t) _
-    (from-refused ofLine 7 nowhere refl (inr (inl refl))))))
+    (from-refused ofLine 7 nowhere refl (inr (inl refl)))))))
 
 read-numbers : (t : List ℕ) (place : ℕ) → Refuses ofLine (readOf largest64 mostPorts t place)
 unfolding readOf
@@ -200,10 +201,11 @@ ofRequest = 15 ∷ 13 ∷ 2 ∷ []
 abbrev ofReport : List ℕ
 ofReport = 15 ∷ 14 ∷ 12 ∷ 16 ∷ []
 
--- what is offered is an order, a mark, the end, or 15
+-- what is offered is an order, a seat, a mark, the end, or 15
 offer-numbers : (ns : List ℕ) → OneOf ns 15 → (C : Setting) (m : model.State) → RefusesAs ns (offer C m)
 unfolding offer
-offer-numbers ns h C m = of-test (RefusesAs ns) (m .ended) _ _ (λ k e. absurd (true≢false (cc))) (by (todo C m))
+offer-numbers ns h C m =
+    of-test (RefusesAs ns) (m .ended) _ _ (λ k e. absurd (true≢false (cc))) (of-test (RefusesAs ns) (model.seating m) _ _ (λ k e. absurd (true≢false (cc))) (by (todo C m)))
   where
     by : (o : Option (List Order)) → RefusesAs ns (next C m o)
     by none = answer-refusal ns 15 h
@@ -258,6 +260,7 @@ rehearsal-numbers room r =
 -- and they name no place
 fill-nowhere : (n : ℕ) (a : model.Answer) → EachRefusal (λ k s. earlierNumber s ≡ 0) (stopTold n (sequel a))
 fill-nowhere n (movement o) = each-accepted _ _
+fill-nowhere n (seat j) = each-accepted _ _
 fill-nowhere n (mark m r) = each-accepted _ _
 fill-nowhere n (theEnd m) = each-accepted _ _
 fill-nowhere n taken = each-accepted _ _
@@ -291,7 +294,7 @@ resume-numbers s p =
 
 resume-kept : (s : State) (p : List ℕ) (k : ℕ) (q : Spot) → resumeOf s p ≡ refused k q → resumedOf s p ≡ s
 unfolding resumedOf
-resume-kept s p k q e = ap (λ x. goesOn x (panelIn p s) s) e
+resume-kept s p k q e = ap (λ x. goesOn x (goingOn p s) s) e
 
 -- ---- demand one
 

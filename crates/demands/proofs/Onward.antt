@@ -1,6 +1,6 @@
 -- Demand three from any state on that is not refused with 15: for the code (`onward-left`), for the bytes (`onward-bytes`) and for the words of the calls for C
 -- (`onward-words`). And after a power cut in any call: whichever of the two states was saved and whichever of the two panels stands, what the call `resume`
--- gives is the state before the cut call or the one after it, with the panel that stands (`cut-resumed`).
+-- gives is the state before the cut call or the one after it, with the panel that stands and its seats begun anew (`cut-resumed`).
 -- Assumes nothing.
 use mathlib.Core.Path.{_≡_, refl, sym, ap, subst, _∙_}
 use mathlib.Core.Logic.{_⊎_, inl, inr}
@@ -20,14 +20,17 @@ use Rattle.words.specs.Told.{accepted}
 use Rattle.words.specs.Padded.{padded}
 use Rattle.pattern_check.proofs.Accepted.{Panel, panel-accepted}
 use Rattle.promise.specs.Campaign as model
-use Rattle.promise.specs.Campaign.{Setting, Call, after}
+use Rattle.promise.specs.Campaign.{withPanel, Setting, Call, after}
 use Rattle.promise.specs.Bench.{acts, run, leaves}
 use Rattle.promise.specs.Onward.{Onward, pastOf}
+use Rattle.promise.specs.Seats.{Reseats, seatDue}
 use Rattle.promise.proofs.Fitness.{tells-fit}
 use Rattle.promise.proofs.Onward.{onward-fit}
 use Rattle.promise.proofs.Past.{own-past}
-use Rattle.promise_onward.specs.Resume.{resumed}
+use Rattle.promise.proofs.Seats.{reseats-onward}
+use Rattle.promise_onward.specs.Resume.{anew}
 use Rattle.promise_onward.specs.Cuts.{left, Cut}
+use Rattle.promise_onward.proofs.Panels.{fit-anew}
 use Rattle.promise_onward.proofs.Cuts.{saved-itself, cut-so}
 use Rattle.plan_rules.specs.Planned.{device}
 use Rattle.plan_rules.specs.Rules.{planRuled}
@@ -35,9 +38,10 @@ use Rattle.plan_rules.specs.declared.Plan.{Plan}
 use Rattle.campaign_state.specs.State.{settingOf, momentOf}
 use Rattle.campaign_state.specs.Fitness.{emptyFrom, placesFit, fit}
 use Rattle.campaign_state.specs.declared.State.{State}
+use Rattle.campaign_state.proofs.Fit.{fit-parts, moment-fit}
 use Rattle.campaign_state.proofs.Places.{Sized, empty-from}
 use Rattle.campaign.specs.Calls.{leftOf}
-use Rattle.campaign_onward.specs.Calls.{withPlaces, panelIn, resumeOf, resumedOf, goesOn}
+use Rattle.campaign_onward.specs.Calls.{withPlaces, panelIn, seatsAnew, goingOn, resumeOf, resumedOf, goesOn}
 use Rattle.campaign_onward.proofs.Resumes.{goes-fit, panel-taken}
 use Rattle.campaign_reached.specs.Turns.{AcceptedPlan, Called, callOf, turnsOf, leftAfter}
 use Rattle.campaign_reached.proofs.Begun.{lawful, accepts, plan-fits}
@@ -75,6 +79,13 @@ module _ (s : State) (z : Sized s) (f : fit s ≡ true) where
         let turned : turnsOf cs s ≡ run C (map callOf cs) m = turns-model C cs s (R .kept) refl in
         let stays : momentOf (leftAfter cs s) ≡ leaves m (run C (map callOf cs) m) = left-so C cs s (R .kept) refl .moment ∙ ap (leaves m) turned in
         rw (turned, stays) (onward-fit C (lawful P) (accepts P) m (R .fit) (map callOf cs) (m .panel) refl)
+
+    -- after an error the seats come in turn and then the same mark, from there on too
+    pub reseats-left : let past = pastOf C (momentOf s) in Reseats (C .family .ports) (past .mark) (seatDue C (momentOf s) past) (acts (turnsOf cs s))
+    reseats-left =
+        let m = momentOf s in
+        let turned : turnsOf cs s ≡ run C (map callOf cs) m = turns-model C cs s (R .kept) refl in
+        rw turned (reseats-onward C (lawful P) (accepts P) m (R .fit) (pastOf C m) (own-past C (lawful P) (accepts P) m (R .fit)) (map callOf cs))
 
     -- of what a robot reads from the bytes alone, on a panel that is the state's
     pub onward-bytes : Onward C (momentOf s .panel) (momentOf s) (pastOf C (momentOf s)) (turnsOf cs s) (robotActs cs s) (momentOf (leftAfter cs s))
@@ -117,7 +128,7 @@ own-in s z k =
     (ap (λ j. take n (s .panel) ++ replicate j 0) long ∙ ap (λ l. take n (s .panel) ++ l) (sym (zeros-are rest empty)) ∙ take-append-drop n (s .panel))
 
 -- a panel put into x makes y where it makes the moment of y and the plan is that of y
-put-so : (x y : State) (q : List ℕ) → x .plan ≡ y .plan → resumed q (momentOf x) ≡ momentOf y → panelIn q x ≡ panelIn (momentOf y .panel) y
+put-so : (x y : State) (q : List ℕ) → x .plan ≡ y .plan → withPanel q (momentOf x) ≡ momentOf y → panelIn q x ≡ panelIn (momentOf y .panel) y
 put-so x y q p e = λ i. record {
   plan = p i;
   panel = padded mostPorts 0 (e i .panel);
@@ -128,6 +139,7 @@ put-so x y q p e = λ i. record {
   errors = e i .errors;
   standing = e i .standing;
   ended = e i .ended;
+  seat = e i .toSeat;
 }
 
 -- ---- after a power cut
@@ -139,8 +151,9 @@ pub record GoesOnAs (x : State) (q : List ℕ) (y : State) : Type 0 where
   pub panel : q ≡ momentOf y .panel
 
 module _ (P : AcceptedPlan) where
-  -- so it is where the panel makes the moment of a state that calls leave
-  goes-as : (x y : State) (q : List ℕ) → Reached P y → Sized y → fit y ≡ true → x .plan ≡ y .plan → resumed q (momentOf x) ≡ momentOf y → GoesOnAs x q y
+  -- so it is, its seats begun anew, where the panel makes the moment of a state that calls leave
+  goes-as : (x y : State) (q : List ℕ) → Reached P y → Sized y → fit y ≡ true → x .plan ≡ y .plan → withPanel q (momentOf x) ≡ momentOf y
+      → GoesOnAs x q (seatsAnew y)
   unfolding resumedOf
   goes-as x y q R z f p e =
       let put : panelIn q x ≡ y = put-so x y q p e ∙ own-in y z (R .kept) in
@@ -151,7 +164,16 @@ module _ (P : AcceptedPlan) where
       let one : Panel mostPorts q = record { low = omega (arith, is .long, fits .fewPorts); high = omega (arith, is .long, fits .manyPorts); is = rw (is .long) is } in
       let told : accepted tt ≡ resumeOf x q =
       goes-fit x q (long ∙ ap (λ (r : Plan). r .ports) (sym p)) (sym (ap fit put ∙ f)) ∙ panel-taken x q (panel-accepted mostPorts q one) in
-      record { told = sym told; gives = ap (λ r. goesOn r (panelIn q x) x) (sym told) ∙ put; panel = panel }
+      record { told = sym told; gives = ap (λ r. goesOn r (goingOn q x) x) (sym told) ∙ ap seatsAnew put; panel = panel }
+
+-- a fit state is fit with its seats begun anew
+pub anew-fit : (s : State) → Sized s → fit s ≡ true → Sized (seatsAnew s) × (fit (seatsAnew s) ≡ true)
+unfolding fit placesFit
+anew-fit s z f =
+    let m = momentOf s in
+    (record { starts = z .starts; runs = z .runs; panel = z .panel },
+    and-eq-true-iff (placesFit s) (model.fit (settingOf s) (anew m)) .1
+    (fit-parts s f .0, tells-fit (settingOf s) (anew m) .1 (fit-anew (settingOf s) m (moment-fit s f))))
 
 -- a call that was cut short on a fit state: whichever of the two states was saved, and whichever of the two panels stands
 module _ (s : State) (z : Sized s) (f : fit s ≡ true) (c : Call) where
@@ -166,9 +188,9 @@ module _ (s : State) (z : Sized s) (f : fit s ≡ true) (c : Call) where
         and-eq-true-iff (placesFit (leftOf c s)) (model.fit (settingOf s) (momentOf (leftOf c s))) .1 (L .kept .fit, tells-fit (settingOf s) (momentOf (leftOf c s)) .1 (L .fit)),
       )
 
-  -- it goes on as the state before the call or as the one after it: no order is lost and none is done twice
+  -- it goes on as the state before the call or as the one after it, its seats begun anew: no movement is lost and none is done twice
   pub cut-resumed : (x : State) (q : List ℕ) → (x ≡ s) ⊎ (x ≡ leftOf c s) → (q ≡ momentOf s .panel) ⊎ (q ≡ momentOf (leftOf c s) .panel)
-      → GoesOnAs x q s ⊎ GoesOnAs x q (leftOf c s)
+      → GoesOnAs x q (seatsAnew s) ⊎ GoesOnAs x q (seatsAnew (leftOf c s))
   unfolding leftOf
   cut-resumed x q saved read =
       let P : AcceptedPlan = own s z f in

@@ -16,7 +16,7 @@ use Rattle.words.specs.Told.{Spot, refused}
 use Rattle.promise.specs.Campaign.{Setting, Call, request, Answer, refusal}
 use Rattle.promise.specs.Campaign as model
 use Rattle.promise.specs.Fitness.{Fit, Why, noRoom}
-use Rattle.promise.proofs.Steps.{Does, moves-on, hands-out, ends, closes, errs, refuses}
+use Rattle.promise.proofs.Steps.{Does, moves-on, seats-on, hands-out, ends, closes, errs, refuses}
 use Rattle.promise.proofs.Refusals.{tells-refusal}
 use Rattle.plan_rules.specs.Places.{placed, heldOf}
 use Rattle.plans.specs.Calls.{readPlanOf}
@@ -34,8 +34,9 @@ use Rattle.campaign_reached.proofs.Room.{offer-45}
 
 -- what a call does to a fit state is not to refuse it with 15
 not-fifteen : {C : Setting} {m m' : model.State} {c : Call} {a : Answer} → Does C m c a m' → a ≢ refusal 15
-not-fifteen (moves-on o os st en w) e = true≢false (cc)
-not-fifteen (hands-out st en w) e = true≢false (cc)
+not-fifteen (moves-on o os st en ns w) e = true≢false (cc)
+not-fifteen (seats-on sn) e = true≢false (cc)
+not-fifteen (hands-out st en ns w) e = true≢false (cc)
 not-fifteen (ends en) e = true≢false (cc)
 not-fifteen (closes st cl x) e = true≢false (cc)
 not-fifteen (errs st lt) e = true≢false (cc)
@@ -78,6 +79,7 @@ module _ (t : List ℕ) (k : ℕ) (at : Spot) (e : readPlanOf t ≡ refused k at
     errors = 0;
     standing = false;
     ended = false;
+    seat = 0;
   }
   unfolding placed home tabulate
   refused-zeros = ap (λ r. firstState (heldOf mostLegs r)) e

@@ -14,11 +14,10 @@ use Rattle.words.specs.Padded.{padded}
 use Rattle.words.proofs.Padded.{padded-length, padded-front, padded-beyond}
 use Rattle.pattern_check.proofs.Accepted.{Panel, panel-accepted}
 use Rattle.promise.specs.Campaign as model
-use Rattle.promise.specs.Campaign.{Setting, wanted}
+use Rattle.promise.specs.Campaign.{withPanel, Setting, wanted}
 use Rattle.promise.specs.Derangements.{derangements}
 use Rattle.promise.specs.Fitness as promise
 use Rattle.promise.proofs.Steps.{listed-here}
-use Rattle.promise_onward.specs.Resume.{resumed}
 use Rattle.promise_onward.proofs.Panels.{tells-stand, stand-wanted}
 use Rattle.campaign_state.specs.State.{settingOf, momentOf}
 use Rattle.campaign_state.specs.Fitness.{fit, Fit}
@@ -62,7 +61,7 @@ module _ (s : State) (z : Sized s) (f : fit s ≡ true) where
       (record {
         plan = g .plan;
         unused = λ i h l. padded-beyond mostPorts 0 q i (omega (arith, is .long));
-        moment = subst (λ p. promise.Fit C (resumed p (momentOf s))) (sym (padded-front mostPorts n 0 q (is .long))) stands;
+        moment = subst (λ p. promise.Fit C (withPanel p (momentOf s))) (sym (padded-front mostPorts n 0 q (is .long))) stands;
       })
 
   pub restored : resumeOf s q ≡ accepted tt

@@ -12,12 +12,12 @@ use native.Mathlib.Omega.{arith}
 use lib.ListN.{length}
 use Rattle.listing.specs.Count.{count}
 use Rattle.promise.specs.Plan.{Leg}
-use Rattle.promise.specs.Campaign.{Setting, request, reportTo, Answer, movement, mark, theEnd, taken, refusal}
+use Rattle.promise.specs.Campaign.{Setting, request, reportTo, Answer, movement, seat, mark, theEnd, taken, refusal}
 use Rattle.promise.specs.Campaign as model
 use Rattle.promise.specs.Bench.{Turn, Act, inFront}
 use Rattle.promise.specs.Demand.{Demanded, FullCircuit}
 use Rattle.promise.specs.Derangements.{derangements}
-use Rattle.promise.proofs.Steps.{Does, moves-on, hands-out, ends, closes, errs, refuses}
+use Rattle.promise.proofs.Steps.{Does, moves-on, seats-on, hands-out, ends, closes, errs, refuses}
 use Rattle.campaign_state.specs.State.{answerLine, momentOf}
 use Rattle.campaign_state.specs.declared.State.{State}
 use Rattle.campaign.specs.Calls.{answerOf, toldOf, leftOf, bytesOf}
@@ -38,6 +38,7 @@ use Rattle.demands.proofs.Bytes.{demand-bytes, all-met-bytes}
 
 answer-told : (a : Answer) → answerTold (toldOf a) ≡ a
 answer-told (movement o) = refl
+answer-told (seat j) = refl
 answer-told (mark k r) = refl
 answer-told (theEnd k) = refl
 answer-told taken = refl
@@ -48,8 +49,9 @@ answer-told (refusal k) = refl
 -- a request: the robot reads where a line was written
 asked-so : {C : model.Setting} {m m' : model.State} {room : ℕ} {a : Answer} (bytes : List ℕ) (xs : List Act) → Does C m (request room) a m'
     → (a ≡ refusal 0 → ⊥) → askedIn (numberTold (toldOf a)) bytes xs ≡ askedActs (answerLine a) bytes xs
-asked-so bytes xs (moves-on o os st en w) h = refl
-asked-so bytes xs (hands-out st en w) h = refl
+asked-so bytes xs (moves-on o os st en ns w) h = refl
+asked-so bytes xs (seats-on sn) h = refl
+asked-so bytes xs (hands-out st en ns w) h = refl
 asked-so bytes xs (ends en) h = refl
 asked-so bytes xs (refuses zero n) h = absurd (h refl)
 asked-so bytes xs (refuses (suc k) n) h = refl

@@ -4,7 +4,7 @@ use Prim.Native.Nat.{ℕ, zero, suc, _+_}
 use mathlib.Core.Path.{_≡_}
 use mathlib.Core.List.{List}
 use Rattle.words.specs.Told.{Told, accepted, refused}
-use Rattle.promise.specs.Campaign.{Call, request, reportTo, Answer, movement, mark, theEnd, taken, refusal}
+use Rattle.promise.specs.Campaign.{Call, request, reportTo, Answer, movement, seat, mark, theEnd, taken, refusal}
 use Rattle.campaign_state.specs.declared.State.{State}
 use Rattle.campaign.specs.Calls.{answerOf, leftOf, begunOf}
 use Rattle.campaign_onward.specs.Calls.{resumedOf}
@@ -19,6 +19,7 @@ ranAdds (suc kind) = 0
 -- so much if the answer is that a report was taken, else nothing
 abbrev pub ifTaken : ℕ → Answer → ℕ
 ifTaken n (movement o) = 0
+ifTaken n (seat j) = 0
 ifTaken n (mark k r) = 0
 ifTaken n (theEnd k) = 0
 ifTaken n taken = n

@@ -8,6 +8,7 @@ pub mod Two
 pub mod Robot
 pub mod Words
 pub mod Lives
+pub mod Seats
 pub mod Prompt
 pub mod Only
 pub mod Counts

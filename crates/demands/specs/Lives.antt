@@ -7,7 +7,8 @@ use mathlib.Core.Logic.{_⊎_}
 use mathlib.Core.List.{List, [], _∷_}
 use Rattle.campaign_state.specs.State.{momentOf}
 use Rattle.campaign_state.specs.declared.State.{State}
-use Rattle.campaign.specs.Calls.{leftOf}
+use Rattle.promise_onward.specs.Lives.{OfRow}
+use Rattle.campaign.specs.Calls.{answerOf, leftOf}
 use Rattle.campaign_onward.specs.Calls.{resumedOf}
 use Rattle.campaign_reached.specs.Turns.{Called, callOf}
 
@@ -16,7 +17,8 @@ pub data Event : Type 0 where
   made : Called → Event
   cut : Called → State → List ℕ → Event
 
--- what a cut in a call may leave: the state before it or the one after it is saved, and the panel is that of the one or the other
+-- what a cut in a call may leave: the state before it or the one after it is saved, and the panel is that of the one or the other. (Of a call that gave a seat
+-- the state after it is saved only when the seat is done: `promise_onward.Unread.saved-early` has why.)
 abbrev pub MayLeave : Called → State → State → List ℕ → Type 0
 MayLeave c s x q =
     ((x ≡ s) ⊎ (x ≡ leftOf (callOf c) s)) × ((q ≡ momentOf s .panel) ⊎ (q ≡ momentOf (leftOf (callOf c) s) .panel))
@@ -33,9 +35,14 @@ through [] s = s
 through (made c ∷ es) s = through es (leftOf (callOf c) s)
 through (cut c x q ∷ es) s = through es (resumedOf x q)
 
--- the calls that are kept: each that is made, and of those in which the power fails some
-pub data KeptOf : List Event → List Called → Type 0 where
-  none : KeptOf [] []
-  made-kept : {es : List Event} {cs : List Called} (c : Called) → KeptOf es cs → KeptOf (made c ∷ es) (c ∷ cs)
-  cut-kept : {es : List Event} {cs : List Called} (c : Called) (x : State) (q : List ℕ) → KeptOf es cs → KeptOf (cut c x q ∷ es) (c ∷ cs)
-  cut-lost : {es : List Event} {cs : List Called} (c : Called) (x : State) (q : List ℕ) → KeptOf es cs → KeptOf (cut c x q ∷ es) cs
+-- the calls that are kept, from state s on: each that is made, and of those in which the power fails some; the seats of a row that a later cut broke are lost
+-- with it, since the row begins anew
+pub data KeptOf : State → List Event → List Called → Type 0 where
+  none : {s : State} → KeptOf s [] []
+  made-kept : {s : State} {es : List Event} {cs : List Called} (c : Called) → KeptOf (leftOf (callOf c) s) es cs → KeptOf s (made c ∷ es) (c ∷ cs)
+  row-broken : {s : State} {es : List Event} {cs : List Called} (c : Called) → OfRow (answerOf (callOf c) s) → KeptOf (leftOf (callOf c) s) es cs
+      → KeptOf s (made c ∷ es) cs
+  cut-kept : {s : State} {es : List Event} {cs : List Called} (c : Called) (x : State) (q : List ℕ) → KeptOf (resumedOf x q) es cs
+      → KeptOf s (cut c x q ∷ es) (c ∷ cs)
+  cut-lost : {s : State} {es : List Event} {cs : List Called} (c : Called) (x : State) (q : List ℕ) → KeptOf (resumedOf x q) es cs
+      → KeptOf s (cut c x q ∷ es) cs

@@ -10,12 +10,12 @@ use Rattle.listing.specs.Limits.{mostPorts, largest64}
 use Rattle.words.specs.Told.{Told, accepted, refused}
 use Rattle.words.specs.Meaning.{orderOf}
 use Rattle.words.specs.declared.Line.{Line}
-use Rattle.words.specs.declared.Line.the-variants.{Movement, Mark, End}
+use Rattle.words.specs.declared.Line.the-variants.{Movement, Seat, Mark, End}
 use Rattle.line_format.specs.Format.{lineText}
 use Rattle.line_format.specs.Reading.{readOf}
 use Rattle.panel.specs.Calls.{carryOf, carryBytes}
 use Rattle.promise.specs.Campaign.{request, reportTo}
-use Rattle.promise.specs.Bench.{Act, moves, meets, inFront}
+use Rattle.promise.specs.Bench.{Act, moves, seats, meets, inFront}
 use Rattle.campaign_state.specs.State.{answerLine}
 use Rattle.campaign_state.specs.declared.State.{State}
 use Rattle.campaign.specs.Calls.{answerOf, leftOf, bytesOf}
@@ -67,9 +67,10 @@ RobotMeets n q (tells m kind ∷ cs) s = RobotMeets n q cs (leftOf (reportTo m k
 
 -- ---- what happens on the bench, as the robot sees it
 
--- by what it read: it carries an order out, it meets a mark
+-- by what it read: it carries an order out, it seats a jack, it meets a mark
 abbrev pub lineActs : Line → List Act → List Act
 lineActs (Movement o) xs = moves (orderOf o) ∷ xs
+lineActs (Seat j) xs = seats (j .0) ∷ xs
 lineActs (Mark k r) xs = meets k r ∷ xs
 lineActs (End k) xs = xs
 
@@ -81,7 +82,7 @@ abbrev pub askedActs : Option Line → List ℕ → List Act → List Act
 askedActs none bytes xs = xs
 askedActs (some l) bytes xs = seenActs (seen bytes) xs
 
--- of any calls: the orders and marks that it reads, and the reports that were taken
+-- of any calls: the orders, seats and marks that it reads, and the reports that were taken
 unfoldable pub robotActs : List Called → State → List Act
 robotActs [] s = []
 robotActs (asks buf ∷ cs) s = askedActs (answerLine (answerOf (request (length buf)) s)) (bytesOf s buf) (robotActs cs (leftOf (request (length buf)) s))

@@ -51,6 +51,7 @@ fn give_order(order: Answer, bytes: u64, answer: &mut [u64; ANSWER_WORDS]) -> u8
 {
     match order {
         Answer::Movement(o) => give_line(Line::Movement(o), bytes, answer),
+        Answer::Seat(jack) => give_line(Line::Seat(jack), bytes, answer),
         Answer::Mark(number, rank) => give_line(Line::Mark(number, rank), bytes, answer),
         Answer::End(marks) => give_line(Line::End(marks), bytes, answer),
         Answer::Refused(f) => refuse(f, answer),
@@ -219,7 +220,7 @@ pub extern "C" fn jidrofex_rehearse(
     give_outcome(judged, answer)
 }
 
-// The state with the panel as it was read back, to go on from after a power cut.
+// The state with the panel as it was read back and its seats begun anew, to go on from after a power cut.
 #[no_mangle]
 pub extern "C" fn jidrofex_resume(
     state: &mut [u64],

@@ -15,7 +15,7 @@ use Rattle.words.specs.declared.Order.the-variants.{Swap, Turn}
 use Rattle.words.specs.declared.Outcome.{Outcome}
 use Rattle.words.specs.declared.Outcome.the-variants.{Accepted, Refused}
 use Rattle.promise.specs.Campaign as model
-use Rattle.promise.specs.Campaign.{movement, mark, theEnd, taken, refusal}
+use Rattle.promise.specs.Campaign.{movement, seat, mark, theEnd, taken, refusal}
 use Rattle.plans.specs.Calls.{readPlanOf}
 use Rattle.campaign_state.specs.State.{width}
 use Rattle.campaign.specs.Answers.{heardTold}
@@ -80,6 +80,7 @@ order-words (Turn a b c) n = refl
 -- where that is how many bytes its line takes, they are what a request gives
 by-width : (a : model.Answer) {n : ℕ} → n ≡ width a → wordsTold (orderThen n) (toldOf a) ≡ wordsTold orderAndBytes (toldOf a)
 by-width (movement o) e = ap (λ m. wordsTold (orderThen m) (toldOf (movement o))) e
+by-width (seat j) e = ap (λ m. wordsTold (orderThen m) (toldOf (seat j))) e
 by-width (mark k r) e = ap (λ m. wordsTold (orderThen m) (toldOf (mark k r))) e
 by-width (theEnd k) e = ap (λ m. wordsTold (orderThen m) (toldOf (theEnd k))) e
 by-width taken e = refl

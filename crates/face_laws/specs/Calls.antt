@@ -14,7 +14,7 @@ use Rattle.plans.specs.Calls.{readPlanOf}
 use Rattle.campaign_state.specs.declared.State.{State}
 use Rattle.campaign.specs.Calls.{answerOf, toldOf, leftOf, bytesOf, begunOf}
 use Rattle.pattern_check.specs.Calls.{checkAs}
-use Rattle.campaign_onward.specs.Calls.{statusOf, panelIn, fitTold}
+use Rattle.campaign_onward.specs.Calls.{statusOf, goingOn, fitTold}
 use Rattle.campaign_onward.specs.declared.Whereabouts.{Whereabouts}
 use Rattle.printing.specs.Printing.{linesIn}
 use Rattle.printing.specs.Rehearsals.{rehearsalOf, stateOf}
@@ -85,9 +85,9 @@ statusIn ws = onWords states statusOf ws
 unfoldable pub resumeTold : List ℕ → List ℕ → Told (Unit {0})
 resumeTold p ws = then (checkAs false mostPorts p) (λ x. onWords states (λ s. fitTold s p) ws)
 
--- the words of the state with the panel put in; on a refusal those that were there
+-- the words of the state that goes on, the panel put in and its seats begun anew; on a refusal those that were there
 unfoldable pub resumeWords : List ℕ → List ℕ → List ℕ
-resumeWords p ws = leaves (resumeTold p ws) (leftIn states (panelIn p) (stateIn ws) ws) ws
+resumeWords p ws = leaves (resumeTold p ws) (leftIn states (goingOn p) (stateIn ws) ws) ws
 
 -- ---- the orders in bulk
 

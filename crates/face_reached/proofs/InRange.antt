@@ -23,6 +23,7 @@ use Rattle.words.proofs.Padded.{padded-length, padded-beyond}
 use Rattle.words.proofs.WithSign.{behind-fits}
 use Rattle.promise.specs.Plan.{Leg, marks}
 use Rattle.promise.specs.Campaign.{Call, Setting, closedMarks, numberOf}
+use Rattle.promise.specs.Derangements.{derangements}
 use Rattle.promise.proofs.Legs.{number-below}
 use Rattle.plan_rules.specs.Places.{placed, heldOf}
 use Rattle.plan_rules.specs.Planned.{Planned, runOf, EachFits}
@@ -168,6 +169,11 @@ module _ (P : AcceptedPlan) (s : State) (R : Reached P s) (h : Holds s) where
       by true = omega arith
       by false = omega (arith, number-below (P .plan .legs) (s .leg) (s .step) (R .fit .leg) (R .fit .step))
 
+  -- the next jack to seat is one of the panel, or none
+  on-seat : s .seat ≤ mostPorts
+  unfolding derangements
+  on-seat = omega (arith, R .fit .seat, plan-fits P .manyPorts)
+
   pub in-range : InRange s
   in-range =
       let f = plan-fits P in
@@ -186,6 +192,7 @@ module _ (P : AcceptedPlan) (s : State) (R : Reached P s) (h : Holds s) where
         covered = omega (arith, R .fit .counts, few-closed);
         opened = omega (arith, R .fit .counts, few-closed);
         errors = omega (arith, R .fit .errors);
+        seat = omega (arith, on-seat);
       }
 
   -- so the state is read back from its words

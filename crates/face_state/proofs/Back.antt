@@ -19,7 +19,7 @@ use Rattle.listing.proofs.Numbers.{either, test, below?}
 use Rattle.campaign_state.specs.declared.State.{State}
 use Rattle.campaign_state.proofs.Places.{Sized}
 use Rattle.face_values.specs.Lines.{largest8}
-use Rattle.face_state.specs.States.{portsPlace, legsPlace, startsPlace, runsPlace, panelPlace, legPlace, stepPlace, coveredPlace, openPlace, errorsPlace, standingPlace, endedPlace, stateCount, largest32, runBits, runIn, bit, lastWords, stateWords, limits, within, word, wordsAt, stateAt, stateIn}
+use Rattle.face_state.specs.States.{portsPlace, legsPlace, startsPlace, runsPlace, panelPlace, legPlace, stepPlace, coveredPlace, openPlace, errorsPlace, standingPlace, endedPlace, seatPlace, stateCount, largest32, runBits, runIn, bit, lastWords, stateWords, limits, within, word, wordsAt, stateAt, stateIn}
 use Rattle.face_state.proofs.Parts.{drop-past}
 use Rattle.face_state.proofs.Within.{within-length, within-at, within-parts, within-same}
 use Rattle.face_state.proofs.Runs.{bits-fit, all-bits-back, all-runs-back}
@@ -56,13 +56,15 @@ pub record InRange (s : State) : Type 0 where
   pub covered : s .covered ≤ largest64
   pub opened : s .opened ≤ largest64
   pub errors : s .errors ≤ largest32
+  pub seat : s .seat ≤ largest8
 
 module _ (s : State) (k : InRange s) where
-  last-within : within (lastWords s) (largest8 ∷ largest64 ∷ largest64 ∷ largest64 ∷ largest32 ∷ 1 ∷ 1 ∷ []) ≡ true
+  last-within : within (lastWords s) (largest8 ∷ largest64 ∷ largest64 ∷ largest64 ∷ largest32 ∷ 1 ∷ 1 ∷ largest8 ∷ []) ≡ true
   unfolding within
   last-within =
       rw (le-leb (s .leg) largest8 (k .leg), le-leb (s .step) largest64 (k .step), le-leb (s .covered) largest64 (k .covered))
-      (rw (le-leb (s .opened) largest64 (k .opened), le-leb (s .errors) largest32 (k .errors), bit-held (s .standing), bit-held (s .ended)) refl)
+      (rw (le-leb (s .opened) largest64 (k .opened), le-leb (s .errors) largest32 (k .errors), bit-held (s .standing), bit-held (s .ended))
+      (rw (le-leb (s .seat) largest8 (k .seat)) refl))
 
   counts-within : within (s .plan .ports ∷ s .plan .legs ∷ []) (largest8 ∷ largest8 ∷ []) ≡ true
   unfolding within
@@ -116,6 +118,7 @@ module _ (s : State) (k : InRange s) where
         errors = last-word s z errorsPlace (omega arith) i;
         standing = stands i;
         ended = ends i;
+        seat = last-word s z seatPlace (omega arith) i;
       }
 
   -- the state of a state's words is that state
@@ -151,7 +154,7 @@ module _ (ws : List ℕ) (e : within ws limits ≡ true) where
   part : (at n : ℕ) → drop at ws ≡ wordsAt ws at n ++ drop (at + n) ws
   part at n = sym (take-append-drop n (drop at ws)) ∙ ap (λ l. wordsAt ws at n ++ l) (drop-drop n at ws)
 
-  -- the last seven
+  -- the last eight
   last-back : drop legPlace ws ≡ lastWords (stateAt ws)
   last-back =
       next legPlace (omega arith)
@@ -160,10 +163,13 @@ module _ (ws : List ℕ) (e : within ws limits ≡ true) where
       ∙ ap (λ l. word ws coveredPlace ∷ l) (next openPlace (omega arith)
       ∙ ap (λ l. word ws openPlace ∷ l) (next errorsPlace (omega arith)
       ∙ ap (λ l. word ws errorsPlace ∷ l) (next standingPlace (omega arith)
-      ∙ ap (λ l. word ws standingPlace ∷ l) (next endedPlace (omega arith) ∙ ap (λ l. word ws endedPlace ∷ l) (drop-of-length-le ws {i = stateCount} (omega (arith, many))))
+      ∙ ap (λ l. word ws standingPlace ∷ l) (next endedPlace (omega arith)
+      ∙ ap (λ l. word ws endedPlace ∷ l) (next seatPlace (omega arith)
+      ∙ ap (λ l. word ws seatPlace ∷ l) (drop-of-length-le ws {i = stateCount} (omega (arith, many)))))
       ∙ bits)))))
     where
-      bits : word ws standingPlace ∷ word ws endedPlace ∷ [] ≡ bit (eqb (word ws standingPlace) 1) ∷ bit (eqb (word ws endedPlace) 1) ∷ []
+      bits : word ws standingPlace ∷ word ws endedPlace ∷ word ws seatPlace ∷ []
+          ≡ bit (eqb (word ws standingPlace) 1) ∷ bit (eqb (word ws endedPlace) 1) ∷ word ws seatPlace ∷ []
       bits = rw (bit-back (word ws standingPlace) (within-at ws limits e standingPlace (omega arith)), bit-back (word ws endedPlace) (within-at ws limits e endedPlace (omega arith))) refl
 
   -- all of them

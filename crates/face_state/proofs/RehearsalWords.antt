@@ -11,7 +11,7 @@ use native.Mathlib.Omega.{arith}
 use lib.ListN.{length, take, drop, replicate, length-append, length-take, length-drop, length-map, take-append-drop, getD-replicate}
 use lib.Seq.{take-at, drop-at, length-take-le, getD-take, getD-drop}
 use Rattle.listing.specs.Limits.{mostPorts, mostLegs}
-use Rattle.listing.proofs.Numbers.{either, test}
+use Rattle.listing.proofs.Numbers.{either, test, below?}
 use Rattle.text_numbers.proofs.Inverse.{none-some}
 use Rattle.campaign_state.specs.declared.State.{State}
 use Rattle.campaign_state.proofs.Places.{Sized}
@@ -44,7 +44,7 @@ module _ (s : State) where
   end = bit (s .ended) ∷ []
 
   abbrev counts : List ℕ
-  counts = s .covered ∷ s .opened ∷ s .errors ∷ bit (s .standing) ∷ end
+  counts = s .covered ∷ s .opened ∷ s .errors ∷ bit (s .standing) ∷ bit (s .ended) ∷ s .seat ∷ []
 
   words-parts : rehearsalWords (rehearsalOf s) ≡ front ++ end
   words-parts =
@@ -81,11 +81,11 @@ module _ (s : State) where
 
 -- ---- a rehearsal is read back from its words
 
--- with zeros for the counts its words are those of a state
+-- with zeros for the counts and the seat its words are those of a state
 wide-words : (r : Rehearsal) → Sized (stateWith 0 r) → widened (rehearsalWords r) ≡ stateWords (stateWith 0 r)
 wide-words r z =
     let s = stateWith 0 r in
-    let zeros : List ℕ → List ℕ = λ x. 0 ∷ 0 ∷ 0 ∷ 0 ∷ x in
+    let zeros : List ℕ → List ℕ = λ x. 0 ∷ 0 ∷ 0 ∷ 0 ∷ (x ++ (0 ∷ [])) in
     ap widened (words-parts s)
     ∙ ap (λ x. x ++ zeros (drop endPlace (front s ++ end s))) (take-at (front s) (end s) endPlace (front-length s z))
     ∙ ap (λ x. front s ++ zeros x) (drop-at (front s) (end s) endPlace (front-length s z))
@@ -99,19 +99,19 @@ rehearsal-back r k =
 
 -- ---- words are had back from their rehearsal
 
--- the words of a state without the four of its counts
+-- the words of a state without the four of its counts and without its seat
 abbrev narrowed : List ℕ → List ℕ
-narrowed ws = take endPlace ws ++ drop endedPlace ws
+narrowed ws = take endPlace ws ++ wordsAt ws endedPlace 1
 
 -- those are the words of its rehearsal
 narrow-words : (s : State) → Sized s → narrowed (stateWords s) ≡ rehearsalWords (rehearsalOf s)
 narrow-words s z =
     ap narrowed (state-parts s)
-    ∙ ap (λ x. x ++ drop endedPlace (front s ++ counts s)) (take-at (front s) (counts s) endPlace (front-length s z))
-    ∙ ap (λ x. front s ++ x) (drop-past (front s) (counts s) endPlace 4 (front-length s z))
+    ∙ ap (λ x. x ++ wordsAt (front s ++ counts s) endedPlace 1) (take-at (front s) (counts s) endPlace (front-length s z))
+    ∙ ap (λ x. front s ++ take 1 x) (drop-past (front s) (counts s) endPlace 4 (front-length s z))
     ∙ sym (words-parts s)
 
--- the state of 61 words has its places
+-- the state of 62 words has its places
 pub sized-at : (ws : List ℕ) → length ws ≡ stateCount → Sized (stateAt ws)
 sized-at ws e = record {
   starts = omega (arith, length-take mostLegs (drop startsPlace ws), length-drop startsPlace ws);
@@ -120,23 +120,28 @@ sized-at ws e = record {
 }
 
 module _ (ws : List ℕ) where
-  -- four words more
+  -- five words more: four before the end, and one after it
   abbrev rest : List ℕ
-  rest = 0 ∷ 0 ∷ 0 ∷ 0 ∷ drop endPlace ws
+  rest = 0 ∷ 0 ∷ 0 ∷ 0 ∷ (drop endPlace ws ++ (0 ∷ []))
 
-  wide-length : length (widened ws) ≡ length ws + 4
+  wide-length : length (widened ws) ≡ length ws + 5
   wide-length =
-      omega (arith, length-append (take endPlace ws) rest, ap length (take-append-drop endPlace ws), length-append (take endPlace ws) (drop endPlace ws))
+      let more = length-append (drop endPlace ws) (0 ∷ []) in
+      omega (arith, length-append (take endPlace ws) rest, more, ap length (take-append-drop endPlace ws), length-append (take endPlace ws) (drop endPlace ws))
 
   module _ (many : length ws ≡ rehearsalCount) where
     fore : length (take endPlace ws) ≡ endPlace
     fore = length-take-le endPlace ws (omega (arith, many))
 
+    last : length (drop endPlace ws) ≡ 1
+    last = omega (arith, length-drop endPlace ws, many)
+
     -- they are taken away again
     narrow-wide : narrowed (widened ws) ≡ ws
     narrow-wide =
-        ap (λ x. x ++ drop endedPlace (widened ws)) (take-at (take endPlace ws) rest endPlace fore)
-        ∙ ap (λ x. take endPlace ws ++ x) (drop-past (take endPlace ws) rest endPlace 4 fore)
+        ap (λ x. x ++ wordsAt (widened ws) endedPlace 1) (take-at (take endPlace ws) rest endPlace fore)
+        ∙ ap (λ x. take endPlace ws ++ take 1 x) (drop-past (take endPlace ws) rest endPlace 4 fore)
+        ∙ ap (λ x. take endPlace ws ++ x) (take-at (drop endPlace ws) (0 ∷ []) 1 last)
         ∙ take-append-drop endPlace ws
 
     -- the words of the state, place by place
@@ -144,10 +149,15 @@ module _ (ws : List ℕ) where
     wide-front at h = sym (inside (take endPlace ws) rest endPlace at 0 fore h ∙ getD-take endPlace ws at 0 h)
 
     pub wide-end : word ws endPlace ≡ word (widened ws) endedPlace
-    wide-end = sym (past (take endPlace ws) rest endPlace endedPlace 0 fore (omega arith) ∙ getD-drop endPlace ws 0 0)
+    wide-end = sym (past (take endPlace ws) rest endPlace endedPlace 0 fore (omega arith) ∙ inside (drop endPlace ws) (0 ∷ []) 1 0 0 last (omega arith) ∙ getD-drop endPlace ws 0 0)
 
-    pub wide-none : (at : ℕ) → endPlace ≤ at → at < endedPlace → 0 ≡ word (widened ws) at
-    wide-none at h k = sym (past (take endPlace ws) rest endPlace at 0 fore h ∙ inside (replicate 4 0) (drop endPlace ws) 4 (at - endPlace) 0 refl (omega arith) ∙ getD-replicate 4 (at - endPlace) 0 0 (omega arith))
+    pub wide-none : (at : ℕ) → endPlace ≤ at → at < stateCount → (at ≡ endedPlace → ⊥) → 0 ≡ word (widened ws) at
+    wide-none at low high other =
+        sym
+        (past (take endPlace ws) rest endPlace at 0 fore low
+        ∙ either (below? at endedPlace)
+        (λ b. inside (replicate 4 0) (drop endPlace ws ++ (0 ∷ [])) 4 (at - endPlace) 0 refl (omega arith) ∙ getD-replicate 4 (at - endPlace) 0 0 (omega arith))
+        (λ b. let e : at - endPlace ≡ 5 = omega arith in ap (word rest) e ∙ past (drop endPlace ws) (0 ∷ []) 1 1 0 last (omega arith)))
 
     pub wide-many : length (widened ws) ≡ stateCount
     wide-many = omega (arith, wide-length, many)

@@ -18,7 +18,7 @@ use Rattle.plan_rules.specs.declared.Plan.{Plan}
 use Rattle.campaign_state.specs.declared.State.{State}
 use Rattle.campaign_state.proofs.Places.{Sized}
 use Rattle.face_values.specs.Lines.{largest8}
-use Rattle.face_state.specs.States.{portsPlace, legsPlace, startsPlace, runsPlace, panelPlace, legPlace, stepPlace, coveredPlace, openPlace, errorsPlace, standingPlace, endedPlace, stateCount, runBits, bit, lastWords, stateWords, limits, within, word, stateAt, stateIn}
+use Rattle.face_state.specs.States.{portsPlace, legsPlace, startsPlace, runsPlace, panelPlace, legPlace, stepPlace, coveredPlace, openPlace, errorsPlace, standingPlace, endedPlace, seatPlace, stateCount, runBits, bit, lastWords, stateWords, limits, within, word, stateAt, stateIn}
 use Rattle.face_state.specs.Held.{heldIs, WordsFit}
 use Rattle.face_state.specs.declared.Held.{Held}
 use Rattle.face_state.proofs.Parts.{past, inside, run-at}
@@ -30,7 +30,7 @@ module _ (s : State) (z : Sized s) where
   pub bits-length : length (map runBits (s .plan .runs)) ≡ mostLegs
   bits-length = length-map (s .plan .runs) runBits ∙ z .runs
 
-  -- they are 61
+  -- they are 62
   pub words-length : length (stateWords s) ≡ stateCount
   words-length =
       let a = length-append (s .plan .starts) (map runBits (s .plan .runs) ++ (s .panel ++ lastWords s)) in
@@ -97,6 +97,7 @@ module _ (ws : List ℕ) where
     errors = word ws errorsPlace;
     standing = eqb (word ws standingPlace) 1;
     ended = eqb (word ws endedPlace) 1;
+    seat = word ws seatPlace;
   }
 
   pub state-of : {plan : Plan} {panel : List ℕ} → plan ≡ stateAt ws .plan → panel ≡ stateAt ws .panel → stateWith plan panel ≡ stateAt ws
@@ -116,6 +117,7 @@ module _ (ws : List ℕ) (e : within ws limits ≡ true) where
         omega (arith, run-at (take panelPlace limits) (drop stepPlace limits) panelPlace 21 largest8 (panelPlace + i) refl (omega arith) (omega arith));
     leg = within-at ws limits e legPlace (omega arith);
     errors = within-at ws limits e errorsPlace (omega arith);
+    seat = within-at ws limits e seatPlace (omega arith);
   }
 
   -- the state that they are
@@ -146,7 +148,7 @@ module _ (h : Held) {o : Option State} (e : heldIs h ≡ o) where
   pub held-none : h .known ≡ false → none ≡ o
   held-none t = ap (λ b. cond b (some (h .state)) none) (sym t) ∙ e
 
--- words that are a state are 61
+-- words that are a state are 62
 pub state-length : (ws : List ℕ) {s : State} → some s ≡ stateIn ws → length ws ≡ stateCount
 state-length ws e =
     either (test (within ws limits))

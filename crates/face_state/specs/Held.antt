@@ -9,7 +9,7 @@ use lib.ListN.{length}
 use Rattle.listing.specs.Limits.{mostPorts}
 use Rattle.campaign_state.specs.declared.State.{State}
 use Rattle.face_values.specs.Lines.{largest8}
-use Rattle.face_state.specs.States.{portsPlace, legsPlace, panelPlace, legPlace, errorsPlace, stateCount, largest32, word}
+use Rattle.face_state.specs.States.{portsPlace, legsPlace, panelPlace, legPlace, errorsPlace, seatPlace, stateCount, largest32, word}
 use Rattle.face_state.specs.declared.Held.{Held}
 
 -- the state, if the words are one
@@ -24,3 +24,4 @@ pub record WordsFit (ws : List ℕ) : Type 0 where
   pub panel : (i : ℕ) → i < mostPorts → word ws (panelPlace + i) ≤ largest8
   pub leg : word ws legPlace ≤ largest8
   pub errors : word ws errorsPlace ≤ largest32
+  pub seat : word ws seatPlace ≤ largest8

@@ -26,9 +26,9 @@ rehearsalWords r = r .plan .ports ∷ r .plan .legs ∷ (r .plan .starts ++ (map
 
 -- ---- the rehearsal that words are
 
--- the words of a state with the same fields: zeros for covered, open, errors and standing
+-- the words of a state with the same fields: zeros for covered, open, errors and standing, and for the seat
 abbrev pub widened : List ℕ → List ℕ
-widened ws = take endPlace ws ++ (0 ∷ 0 ∷ 0 ∷ 0 ∷ drop endPlace ws)
+widened ws = take endPlace ws ++ (0 ∷ 0 ∷ 0 ∷ 0 ∷ (drop endPlace ws ++ (0 ∷ [])))
 
 -- 'A slice of another length, or a word that its field cannot hold, is no rehearsal': as those words are a state, or none
 unfoldable pub rehearsalIn : List ℕ → Option Rehearsal

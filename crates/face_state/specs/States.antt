@@ -12,7 +12,7 @@ use Rattle.words.specs.Signs.{signedLimit}
 use Rattle.campaign_state.specs.declared.State.{State}
 use Rattle.face_values.specs.Lines.{largest8}
 
--- ---- the places: JIDROFEX_STATE_PORTS, JIDROFEX_STATE_LEGS, .. JIDROFEX_STATE_ENDED
+-- ---- the places: JIDROFEX_STATE_PORTS, JIDROFEX_STATE_LEGS, .. JIDROFEX_STATE_ENDED, and of request 4 JIDROFEX_STATE_SEAT
 
 abbrev pub portsPlace : ℕ
 portsPlace = 0
@@ -50,9 +50,12 @@ standingPlace = legPlace + 5
 abbrev pub endedPlace : ℕ
 endedPlace = legPlace + 6
 
+abbrev pub seatPlace : ℕ
+seatPlace = legPlace + 7
+
 -- the words from the leg on, and JIDROFEX_STATE_WORDS
 abbrev pub lastCount : ℕ
-lastCount = 7
+lastCount = 8
 
 abbrev pub stateCount : ℕ
 stateCount = legPlace + lastCount
@@ -80,9 +83,9 @@ bit b = cond b 1 0
 
 -- ---- a state in words
 
--- from JIDROFEX_STATE_LEG on: leg, step, covered, open, errors, standing, ended
+-- from JIDROFEX_STATE_LEG on: leg, step, covered, open, errors, standing, ended, seat
 abbrev pub lastWords : State → List ℕ
-lastWords s = s .leg ∷ s .step ∷ s .covered ∷ s .opened ∷ s .errors ∷ bit (s .standing) ∷ bit (s .ended) ∷ []
+lastWords s = s .leg ∷ s .step ∷ s .covered ∷ s .opened ∷ s .errors ∷ bit (s .standing) ∷ bit (s .ended) ∷ s .seat ∷ []
 
 -- ports, legs, starts, runs, panel, and the last words
 abbrev pub stateWords : State → List ℕ
@@ -95,7 +98,7 @@ abbrev pub limits : List ℕ
 limits =
     largest8 ∷ largest8
     ∷ (replicate mostLegs largest64 ++ (replicate mostLegs largest64 ++ (replicate mostPorts largest8
-    ++ (largest8 ∷ largest64 ∷ largest64 ∷ largest64 ∷ largest32 ∷ 1 ∷ 1 ∷ []))))
+    ++ (largest8 ∷ largest64 ∷ largest64 ∷ largest64 ∷ largest32 ∷ 1 ∷ 1 ∷ largest8 ∷ []))))
 
 -- whether there are as many words as limits, and none is above its own
 unfoldable pub within : List ℕ → List ℕ → Bool
@@ -128,6 +131,7 @@ stateAt ws = record {
   errors = word ws errorsPlace;
   standing = eqb (word ws standingPlace) 1;
   ended = eqb (word ws endedPlace) 1;
+  seat = word ws seatPlace;
 }
 
 -- 'A slice of another length, or a word that its field cannot hold, is an unfit state'

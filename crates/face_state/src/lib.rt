@@ -12,6 +12,7 @@ use crate::places::OPEN;
 use crate::places::PANEL;
 use crate::places::PORTS;
 use crate::places::RUNS;
+use crate::places::SEAT;
 use crate::places::STANDING;
 use crate::places::STARTS;
 use crate::places::STATE_WORDS;
@@ -58,7 +59,10 @@ fn limit_of(at: usize) -> u64
     if at < STANDING {
         return LARGEST32;
     }
-    1
+    if at < SEAT {
+        return 1;
+    }
+    LARGEST8
 }
 
 // Whether there are as many words as a state has, and each is one that its field holds.
@@ -138,6 +142,7 @@ fn state_at(words: &[u64]) -> State
         errors: words[ERRORS] as u32,
         standing: words[STANDING] == 1,
         ended: words[ENDED] == 1,
+        seat: words[SEAT] as u8,
     }
 }
 
@@ -171,7 +176,7 @@ fn run_bits(run: i64) -> u64
     by.magnitude
 }
 
-// The words from the leg on: leg, step, covered, open, errors, standing, ended.
+// The words from the leg on: leg, step, covered, open, errors, standing, ended, seat.
 fn last_word(s: State, i: usize) -> u64
     requires { ⌜ i < lastCount ⌝ }
     ensures { λ r. ⌜ r ≡ word (lastWords s) i ⌝ }
@@ -183,7 +188,8 @@ fn last_word(s: State, i: usize) -> u64
         3 => s.opened,
         4 => s.errors as u64,
         5 => s.standing as u64,
-        _ => s.ended as u64,
+        6 => s.ended as u64,
+        _ => s.seat as u64,
     }
 }
 

@@ -26,7 +26,9 @@ pub const STANDING: usize = ERRORS + 1;
 
 pub const ENDED: usize = STANDING + 1;
 
-pub const STATE_WORDS: usize = ENDED + 1;
+pub const SEAT: usize = ENDED + 1;
+
+pub const STATE_WORDS: usize = SEAT + 1;
 
 // A rehearsal has its fields at the same places, and its end after the step: JIDROFEX_REHEARSAL_ENDED and JIDROFEX_REHEARSAL_WORDS.
 pub const REHEARSAL_ENDED: usize = STEP + 1;

@@ -22,7 +22,7 @@ pub struct HeldRehearsal {
     pub rehearsal: Rehearsal,
 }
 
-// The word at a place of the state that has no counts.
+// The word at a place of the state that has no counts and no seat.
 fn wide_word(words: &[u64], at: usize) -> u64
     requires { ⌜ (length (now words) ≡ rehearsalCount) × (at < stateCount) ⌝ }
     ensures { λ r. ⌜ r ≡ word (widened (now (words .entry))) at ⌝ }
@@ -30,13 +30,13 @@ fn wide_word(words: &[u64], at: usize) -> u64
     if at < REHEARSAL_ENDED {
         return words[at];
     }
-    if at < ENDED {
+    if at != ENDED {
         return 0;
     }
     words[REHEARSAL_ENDED]
 }
 
-// The words of the state that has no counts.
+// The words of the state that has no counts and no seat.
 fn wide(words: &[u64]) -> [u64; STATE_WORDS]
     requires { ⌜ length (now words) ≡ rehearsalCount ⌝ }
     ensures { λ r. ⌜ r ≡ widened (now (words .entry)) ⌝ }

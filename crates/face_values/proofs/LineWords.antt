@@ -16,12 +16,11 @@ use Rattle.words.specs.Meaning.{jackAt}
 use Rattle.words.specs.Shape.{rising, shaped, lineFits, LineFits}
 use Rattle.words.proofs.Shape.{passes-fits}
 use Rattle.words.specs.declared.Jack.{Jack}
-use Rattle.words.specs.declared.Order.{Order}
 use Rattle.words.specs.declared.Order.the-variants.{Swap, Turn}
 use Rattle.words.specs.declared.Line.{Line}
-use Rattle.words.specs.declared.Line.the-variants.{Movement, Mark, End}
+use Rattle.words.specs.declared.Line.the-variants.{Movement, Seat, Mark, End}
 use Rattle.face_values.specs.Answers.{five}
-use Rattle.face_values.specs.Lines.{swapKind, turnKind, markKind, endKind, orderWords, lineWords, moveWords, largest8, jackIn, lineFrom, lineIn}
+use Rattle.face_values.specs.Lines.{swapKind, turnKind, markKind, endKind, seatKind, orderWords, lineWords, moveWords, largest8, jackIn, lineFrom, lineIn}
 
 -- ---- a jack
 
@@ -52,10 +51,15 @@ module _ (kind a b c : ℕ) where
   unfolding lineFrom
   from-end e = ap (λ k. lineFrom k a b c) (sym e)
 
-  pub from-none : (kind ≡ swapKind → ⊥) → (kind ≡ turnKind → ⊥) → (kind ≡ markKind → ⊥) → (kind ≡ endKind → ⊥)
+  pub from-seat : kind ≡ seatKind → Seat (jackIn a) ≡ lineFrom kind a b c
+  unfolding lineFrom
+  from-seat e = ap (λ k. lineFrom k a b c) (sym e)
+
+  pub from-none : (kind ≡ swapKind → ⊥) → (kind ≡ turnKind → ⊥) → (kind ≡ markKind → ⊥) → (kind ≡ endKind → ⊥) → (kind ≡ seatKind → ⊥)
       → Movement (Swap (jackAt 0) (jackAt 0)) ≡ lineFrom kind a b c
   unfolding lineFrom
-  from-none s t m e = rw (ne-eqb kind swapKind s, ne-eqb kind turnKind t, ne-eqb kind markKind m, ne-eqb kind endKind e) refl
+  from-none s t m e j =
+      rw (ne-eqb kind swapKind s, ne-eqb kind turnKind t, ne-eqb kind markKind m, ne-eqb kind endKind e, ne-eqb kind seatKind j) refl
 
 -- equal jacks make equal orders
 pub swap-of : {a b x y : Jack} → a ≡ x → b ≡ y → Movement (Swap a b) ≡ Movement (Swap x y)
@@ -75,6 +79,7 @@ one-words (turn a b c) = refl
 abbrev pub Held : Line → Type 0
 Held (Movement (Swap a b)) = (a .0 ≤ largest8) × (b .0 ≤ largest8)
 Held (Movement (Turn a b c)) = (a .0 ≤ largest8) × (b .0 ≤ largest8) × (c .0 ≤ largest8)
+Held (Seat j) = j .0 ≤ largest8
 Held (Mark number rank) = Unit {0}
 Held (End marks) = Unit {0}
 
@@ -83,6 +88,7 @@ pub line-back : (l : Line) → Held l → lineIn (lineWords l) ≡ l
 unfolding lineFrom
 line-back (Movement (Swap a b)) h = rw (le-leb (a .0) largest8 (h .0), le-leb (b .0) largest8 (h .1)) refl
 line-back (Movement (Turn a b c)) h = rw (le-leb (a .0) largest8 (h .0), le-leb (b .0) largest8 (h .1), le-leb (c .0) largest8 (h .2)) refl
+line-back (Seat j) h = rw (le-leb (j .0) largest8 h) refl
 line-back (Mark number rank) h = refl
 line-back (End marks) h = refl
 
@@ -93,23 +99,30 @@ fits-held l e = by l (passes-fits mostPorts l e)
     by : (l : Line) → LineFits mostPorts l → Held l
     by (Movement (Swap a b)) s = (omega arith, omega arith)
     by (Movement (Turn a b c)) s = (omega arith, omega arith, omega arith)
+    by (Seat j) s = omega arith
     by (Mark number rank) s = tt
     by (End marks) s = tt
 
 -- ---- words that are no line's
 
--- a jack of an order is 0
-abbrev pub NoJack : Order → Type 0
-NoJack (Swap a b) = (a .0 ≡ 0) ⊎ (b .0 ≡ 0)
-NoJack (Turn a b c) = (a .0 ≡ 0) ⊎ (b .0 ≡ 0) ⊎ (c .0 ≡ 0)
+-- a jack of a line is 0
+abbrev pub NoJack : Line → Type 0
+NoJack (Movement (Swap a b)) = (a .0 ≡ 0) ⊎ (b .0 ≡ 0)
+NoJack (Movement (Turn a b c)) = (a .0 ≡ 0) ⊎ (b .0 ≡ 0) ⊎ (c .0 ≡ 0)
+NoJack (Seat j) = j .0 ≡ 0
+NoJack (Mark number rank) = ⊥
+NoJack (End marks) = ⊥
 
--- such an order is out of shape, so a number that no jack holds is refused as such
-pub jack-unfit : (n : ℕ) (o : Order) → NoJack o → lineFits n (Movement o) ≡ false
-jack-unfit n o z = either (test (lineFits n (Movement o))) (λ t. absurd (by o z (passes-fits n (Movement o) t))) (λ t. t)
+-- such a line is out of shape, so a number that no jack holds is refused as such
+pub jack-unfit : (n : ℕ) (l : Line) → NoJack l → lineFits n l ≡ false
+jack-unfit n l z = either (test (lineFits n l)) (λ t. absurd (by l z (passes-fits n l t))) (λ t. t)
   where
-    by : (o : Order) → NoJack o → LineFits n (Movement o) → ⊥
-    by (Swap a b) z s = either z (λ e. omega arith) (λ e. omega arith)
-    by (Turn a b c) z s = either z (λ e. omega arith) (λ y. either y (λ e. omega arith) (λ e. omega arith))
+    by : (l : Line) → NoJack l → LineFits n l → ⊥
+    by (Movement (Swap a b)) z s = either z (λ e. omega arith) (λ e. omega arith)
+    by (Movement (Turn a b c)) z s = either z (λ e. omega arith) (λ y. either y (λ e. omega arith) (λ e. omega arith))
+    by (Seat j) z s = omega arith
+    by (Mark number rank) z s = z
+    by (End marks) z s = z
 
 -- 'a kind that is no line's is refused as out of shape'
 pub none-unfit : (n : ℕ) → lineFits n (Movement (Swap (jackAt 0) (jackAt 0))) ≡ false

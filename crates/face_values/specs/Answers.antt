@@ -28,7 +28,7 @@ wordsTold values (refused k s) = five (spotNumber s ∷ earlierNumber s ∷ [])
 
 -- JIDROFEX_VERSION
 abbrev pub version : ℕ
-version = 4
+version = 5
 
 -- 'Gives the version of the library. Never refused'
 abbrev pub versionTold : Told ℕ

@@ -11,9 +11,9 @@ use Rattle.words.specs.Meaning.{jackAt, orderOf}
 use Rattle.words.specs.declared.Jack.{Jack}
 use Rattle.words.specs.declared.Order.the-variants.{Swap, Turn}
 use Rattle.words.specs.declared.Line.{Line}
-use Rattle.words.specs.declared.Line.the-variants.{Movement, Mark, End}
+use Rattle.words.specs.declared.Line.the-variants.{Movement, Seat, Mark, End}
 
--- ---- the kinds: JIDROFEX_NOTHING, JIDROFEX_SWAP, JIDROFEX_TURN, JIDROFEX_MARK, JIDROFEX_END, JIDROFEX_TWO_SWAPS
+-- ---- the kinds: JIDROFEX_NOTHING, JIDROFEX_SWAP, JIDROFEX_TURN, JIDROFEX_MARK, JIDROFEX_END, JIDROFEX_TWO_SWAPS, and of request 4 JIDROFEX_SEAT
 
 abbrev pub nothingKind : ℕ
 nothingKind = 0
@@ -33,6 +33,9 @@ endKind = 4
 abbrev pub twoSwapsKind : ℕ
 twoSwapsKind = 5
 
+abbrev pub seatKind : ℕ
+seatKind = 6
+
 -- ---- their words
 
 -- 'swap a, b; turn a, b, c'
@@ -40,9 +43,10 @@ abbrev pub orderWords : list.Order → List ℕ
 orderWords (swap a b) = swapKind ∷ a ∷ b ∷ 0 ∷ []
 orderWords (turn a b c) = turnKind ∷ a ∷ b ∷ c ∷ []
 
--- 'mark number, rank; end marks'
+-- 'seat jack; mark number, rank; end marks'
 abbrev pub lineWords : Line → List ℕ
 lineWords (Movement o) = orderWords (orderOf o)
+lineWords (Seat j) = seatKind ∷ j .0 ∷ 0 ∷ 0 ∷ []
 lineWords (Mark number rank) = markKind ∷ number ∷ rank ∷ 0 ∷ []
 lineWords (End marks) = endKind ∷ marks ∷ 0 ∷ 0 ∷ []
 
@@ -69,7 +73,8 @@ lineFrom kind a b c =
     (cond (eqb kind turnKind) (Movement (Turn (jackIn a) (jackIn b) (jackIn c)))
     (cond (eqb kind markKind) (Mark a b)
     (cond (eqb kind endKind) (End a)
-    (Movement (Swap (jackAt 0) (jackAt 0))))))
+    (cond (eqb kind seatKind) (Seat (jackIn a))
+    (Movement (Swap (jackAt 0) (jackAt 0)))))))
 
 -- the line that four words mean
 abbrev pub lineIn : List ℕ → Line

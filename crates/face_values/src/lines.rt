@@ -14,7 +14,8 @@ ghost use Rattle.face_values.specs.Lines.{jackIn, lineIn, orderWords, li
 // JIDROFEX_LINE_WORDS
 pub const LINE_WORDS: usize = 4;
 
-// The kinds of lines and moves: JIDROFEX_NOTHING, JIDROFEX_SWAP, JIDROFEX_TURN, JIDROFEX_MARK, JIDROFEX_END, JIDROFEX_TWO_SWAPS.
+// The kinds of lines and moves: JIDROFEX_NOTHING, JIDROFEX_SWAP, JIDROFEX_TURN, JIDROFEX_MARK, JIDROFEX_END, JIDROFEX_TWO_SWAPS, and of
+// request 4 JIDROFEX_SEAT.
 const NOTHING: u64 = 0;
 
 const SWAP: u64 = 1;
@@ -26,6 +27,8 @@ const MARK: u64 = 3;
 const END: u64 = 4;
 
 const TWO_SWAPS: u64 = 5;
+
+const SEAT: u64 = 6;
 
 // The largest number of 8 bits, which a jack is held in.
 pub const LARGEST8: u64 = 255;
@@ -57,6 +60,9 @@ pub fn line_in(words: &[u64; LINE_WORDS]) -> Line
     if kind == END {
         return Line::End(words[1]);
     }
+    if kind == SEAT {
+        return Line::Seat(jack_in(words[1]));
+    }
     Line::Movement(Order::Swap(Jack(0), Jack(0)))
 }
 
@@ -78,6 +84,7 @@ pub fn give_line(line: Line, last: u64, answer: &mut [u64; ANSWER_WORDS]) -> u8
 {
     match line {
         Line::Movement(o) => give_movement(o, last, answer),
+        Line::Seat(jack) => give(answer, SEAT, jack.0 as u64, 0, 0, last),
         Line::Mark(number, rank) => give(answer, MARK, number, rank, 0, last),
         Line::End(marks) => give(answer, END, marks, 0, 0, last),
     }

@@ -12,7 +12,7 @@ ghost use Rattle.line_sentence.specs.Sentences.{refusalSentenceOf, refusalSente
 ghost use Rattle.face_values.specs.Answers.{numberTold, wordsTold, versionTold, oneNumber};
 
 // JIDROFEX_VERSION
-const VERSION: u64 = 4;
+const VERSION: u64 = 5;
 
 // The version of the library.
 #[no_mangle]

@@ -136,6 +136,10 @@ fn put_next(c: Campaign) -> Went {
                 campaign: next,
                 given: Given::Order,
             },
+            Answer::Seat(_) => Went {
+                campaign: next,
+                given: Given::Order,
+            },
             Answer::Mark(_, _) => {
                 let reported = next.report(RAN);
                 let ran = reported.campaign;

@@ -107,6 +107,8 @@ module _ (p : Plan) (ls : length (p .starts) ≡ mostLegs) (lr : length (p .runs
     atMark = λ q. absurd (true≢false (sym q));
     atEnd = λ q. absurd (true≢false (sym q));
     between = λ st en. found-way _ _ _ _ [] clear;
+    seat = omega arith;
+    seated = λ h. absurd (omega arith);
   }
 
   pub stands-fit : fit state ≡ true
@@ -132,6 +134,6 @@ module _ (p : Plan) (ls : length (p .starts) ≡ mostLegs) (lr : length (p .runs
   pub first-answer : (room : ℕ) → 45 ≤ room → answerOf (request room) state ≡ mark k (markRank p k)
   unfolding rehearsalAt leg roomed
   first-answer room g =
-      mark-answer state stands-fit room refl refl clear
+      mark-answer state stands-fit room refl refl refl clear
       ∙ ap (roomed room) (λ i. mark (place .number i) (rank-is i))
       ∙ ap (λ b. cond b (model.refusal 2) (mark k (markRank p k))) (le-ltb room (length (lineText (Mark k (markRank p k)))) (omega (arith, short)))

@@ -22,7 +22,10 @@ returns-3 : tie.Need-returns-3
 returns-3 c = tells (orderThen _) (ap answerTold (sym (c .before .before .before .order3 .given .1))) (c .give-line3 .ensures)
 
 returns-4 : tie.Need-returns-4
-returns-4 c = tells (orderThen (c .before .before .before .before .before .args .bytes)) (ap answerTold (sym (c .before .before .before .order4 .given .1))) (c .refuse .ensures)
+returns-4 c = tells (orderThen _) (ap answerTold (sym (c .before .before .before .order4 .given .1))) (c .give-line4 .ensures)
+
+returns-5 : tie.Need-returns-5
+returns-5 c = tells (orderThen (c .before .before .before .before .before .args .bytes)) (ap answerTold (sym (c .before .before .before .order5 .given .1))) (c .refuse .ensures)
 
 pub give-order-spec : {M : Type 1} → statement M
 give-order-spec =
@@ -36,7 +39,10 @@ give-order-spec =
     (λ c κs. search needs)
     (λ c. search needs)
     (λ c κs. search needs)
+    (λ c. search needs)
+    (λ c κs. search needs)
     returns
     returns-2
     returns-3
-    returns-4)
+    returns-4
+    returns-5)

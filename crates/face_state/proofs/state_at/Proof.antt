@@ -7,7 +7,7 @@ use Rattle.face_state.proofs.state_at.Tie as tie
 
 returns : tie.Need-returns
 returns c =
-    let p = c .before .before .before .before .before .before .before in
+    let p = c .before .before .before .before .before .before .before .before in
     let q = p .before in
     state-of (q .before .before .args .words .now) (q .plan-in .ensures) (p .panel-in .ensures)
 
@@ -17,6 +17,8 @@ state-at-spec =
     (tie.spec
     (λ c κs. search needs)
     (λ c κs. search needs)
+    (λ c. search needs)
+    (λ c. search needs)
     (λ c. search needs)
     (λ c. search needs)
     (λ c. search needs)

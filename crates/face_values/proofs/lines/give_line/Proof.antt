@@ -14,7 +14,7 @@ returns c =
 
 returns-2 : tie.Need-returns-2
 returns-2 c =
-    let m = c .before .before .before in
+    let m = c .before .before .before .before in
     gives (λ l. lineWords l ++ (m .before .before .args .last ∷ [])) (m .line2 .given .1) (c .give .ensures)
 
 returns-3 : tie.Need-returns-3
@@ -22,7 +22,25 @@ returns-3 c =
     let m = c .before .before .before in
     gives (λ l. lineWords l ++ (m .before .before .args .last ∷ [])) (m .line3 .given .1) (c .give2 .ensures)
 
+returns-4 : tie.Need-returns-4
+returns-4 c =
+    let m = c .before .before .before in
+    gives (λ l. lineWords l ++ (m .before .before .args .last ∷ [])) (m .line4 .given .1) (c .give3 .ensures)
+
 pub give-line-spec : {M : Type 1} → statement M
 give-line-spec =
     tie.close
-    (tie.spec (λ c. search needs) (λ c κs. search needs) (λ c. search needs) (λ c κs. search needs) (λ c. search needs) (λ c κs. search needs) returns returns-2 returns-3)
+    (tie.spec
+    (λ c. search needs)
+    (λ c κs. search needs)
+    (λ c. search needs)
+    (λ c. search needs)
+    (λ c κs. search needs)
+    (λ c. search needs)
+    (λ c κs. search needs)
+    (λ c. search needs)
+    (λ c κs. search needs)
+    returns
+    returns-2
+    returns-3
+    returns-4)

@@ -1,8 +1,9 @@
 -- `face_values::lines::line_in`: the first word decides what the others mean.
 -- Assumes nothing.
-use mathlib.Core.Path.{_∙_}
+use mathlib.Core.Path.{ap, _∙_}
 use borrow.Author.Needs.{needs}
-use Rattle.face_values.proofs.LineWords.{swap-of, turn-of, from-swap, from-turn, from-mark, from-end, from-none}
+use Rattle.words.specs.declared.Line.the-variants.{Seat}
+use Rattle.face_values.proofs.LineWords.{swap-of, turn-of, from-swap, from-turn, from-mark, from-end, from-seat, from-none}
 use Rattle.face_values.proofs.lines.line_in.Statement.{statement}
 use Rattle.face_values.proofs.lines.line_in.Tie as tie
 
@@ -21,9 +22,12 @@ returns-3 : tie.Need-returns-3
 returns-3 c = from-mark _ _ _ _ (c .before .before .if3 .taken)
 
 returns-5 : tie.Need-returns-5
-returns-5 c =
-    let t = c .before in
-    from-none _ _ _ _ (t .before .before .if1 .left) (t .before .if2 .left) (t .if3 .left) (c .if4 .left)
+returns-5 c = ap Seat (c .jack-in6 .ensures) ∙ from-seat _ _ _ _ (c .before .before .if5 .taken)
+
+returns-6 : tie.Need-returns-6
+returns-6 c =
+    let t = c .before .before in
+    from-none _ _ _ _ (t .before .before .if1 .left) (t .before .if2 .left) (t .if3 .left) (c .before .if4 .left) (c .if5 .left)
 
 pub line-in-spec : {M : Type 1} → statement M
 line-in-spec =
@@ -47,4 +51,7 @@ line-in-spec =
     returns-3
     (λ c. search needs)
     (λ c. from-end _ _ _ _ (c .before .if4 .taken))
-    returns-5)
+    (λ c. search needs)
+    (λ c κs. search needs)
+    returns-5
+    returns-6)
