@@ -170,10 +170,11 @@ module _ (P : AcceptedPlan) where
 pub anew-fit : (s : State) → Sized s → fit s ≡ true → Sized (seatsAnew s) × (fit (seatsAnew s) ≡ true)
 unfolding fit placesFit
 anew-fit s z f =
-    let m = momentOf s in
-    (record { starts = z .starts; runs = z .runs; panel = z .panel },
-    and-eq-true-iff (placesFit s) (model.fit (settingOf s) (anew m)) .1
-    (fit-parts s f .0, tells-fit (settingOf s) (anew m) .1 (fit-anew (settingOf s) m (moment-fit s f))))
+    let m = momentOf s in (
+      record { starts = z .starts; runs = z .runs; panel = z .panel },
+      and-eq-true-iff (placesFit s) (model.fit (settingOf s) (anew m)) .1
+          (fit-parts s f .0, tells-fit (settingOf s) (anew m) .1 (fit-anew (settingOf s) m (moment-fit s f))),
+    )
 
 -- a call that was cut short on a fit state: whichever of the two states was saved, and whichever of the two panels stands
 module _ (s : State) (z : Sized s) (f : fit s ≡ true) (c : Call) where

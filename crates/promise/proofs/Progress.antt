@@ -117,16 +117,23 @@ module _ (C : Setting) (lawful : Lawful (C .family)) (accepted : Accepted (C .fa
       → work C (withPanel (carry o (s .panel)) s) < work C s
   work-moved s f o os st en w =
       let t : State = withPanel (carry o (s .panel)) s in
-      omega (arith, work-by C s false false (some (o ∷ os)) (s .toSeat) en st w refl,
-      work-by C t false false (some os) (s .toSeat) en st (step-on C lawful accepted s f o os w) refl)
+      omega (
+        arith,
+        work-by C s false false (some (o ∷ os)) (s .toSeat) en st w refl,
+        work-by C t false false (some os) (s .toSeat) en st (step-on C lawful accepted s f o os w) refl,
+      )
 
   -- a seat leaves one less
   pub work-seated : (s : State) → Fit C s → 0 < s .toSeat → suc (work C (withSeat (seatAfter (C .family .ports) (s .toSeat)) s)) ≡ work C s
   work-seated s f sn =
       let t : State = withSeat (seatAfter (C .family .ports) (s .toSeat)) s in
       let en : s .ended ≡ false = f .seated sn .1 in
-      omega (arith, work-by C s false (s .standing) (todo C s) (s .toSeat) en refl refl refl,
-      work-by C t false (s .standing) (todo C s) (t .toSeat) en refl refl refl, fewer-seats (C .family .ports) (s .toSeat) (sn, f .seat))
+      omega (
+        arith,
+        work-by C s false (s .standing) (todo C s) (s .toSeat) en refl refl refl,
+        work-by C t false (s .standing) (todo C s) (t .toSeat) en refl refl refl,
+        fewer-seats (C .family .ports) (s .toSeat) (sn, f .seat),
+      )
 
   -- a mark leaves less
   pub work-marked : (s : State) → s .standing ≡ false → s .ended ≡ false → todo C s ≡ some [] → work C (withMark true s) < work C s

@@ -50,9 +50,10 @@ hand-out-requires-2 c κs =
     let e = c .before .before in
     let s = e .before .before .before .before .before in
     let x = s .args .self .state in
-    let f = seats e in
-    (few-ports x (sized s) (fit-inside x (f .0)) .1,
-    fits-passes (x .plan .ports) (Seat _) (omega (arith, f .1, f .2), omega (arith, seat-below x (f .0), f .2)))
+    let f = seats e in (
+      few-ports x (sized s) (fit-inside x (f .0)) .1,
+      fits-passes (x .plan .ports) (Seat _) (omega (arith, f .1, f .2), omega (arith, seat-below x (f .0), f .2)),
+    )
 
 hand-out-requires-3 : tie.Need-hand-out-requires-3
 hand-out-requires-3 c κs =
