@@ -50,6 +50,27 @@ fn at_marks(first: &[u64]) -> Vec<Vec<u64>> {
     standing
 }
 
+/// 64 errors on the leg's first mark: each report, the seats, and the request for the mark again. From the leg's start each time.
+fn errors(first: &[u64], request: Request, report: Report) -> usize {
+    let (mut state, mut line, mut answer) = (first.to_vec(), [0; 45], [0; 5]);
+    let mut to_mark = |state: &mut [u64], answer: &mut Answer| {
+        answer[0] = 0;
+        while answer[0] != 3 {
+            assert_eq!(request(state, &mut line, answer), 0);
+        }
+    };
+    to_mark(&mut state, &mut answer);
+    for _ in 0..64 {
+        assert_eq!(report(&mut state, 1, &mut answer), 0);
+        to_mark(&mut state, &mut answer);
+    }
+    64
+}
+
+fn time_errors(first: &[u64], request: Request, report: Report) -> Took {
+    time(|| errors(first, request, report))
+}
+
 fn time_status(states: &[Vec<u64>], status: Status) -> Took {
     let mut answer = [0; 5];
     time(|| {
@@ -77,5 +98,16 @@ pub fn campaign_table() {
     for n in PORTS {
         let states = at_marks(&begun(n).1);
         show("status", n, time_status(&states, face::status), time_status(&states, told::status));
+    }
+}
+
+pub fn errors_table() {
+    println!("\n## After an error\n");
+    println!("Nanoseconds an error: its report, a seat for each jack, and the request for the mark again; ports plus two calls.\n");
+    println!("| ports | library | reference |\n|---|---|---|");
+    for n in PORTS {
+        let first = begun(n).1;
+        let (library, reference) = (time_errors(&first, face::request, face::report), time_errors(&first, told::request, told::report));
+        println!("| {n} | {} | {} |", library.shown(), reference.shown());
     }
 }

@@ -278,6 +278,7 @@ fn main() {
     dictionary::dictionary_table();
     named::named_table();
     campaign::campaign_table();
+    campaign::errors_table();
     printer_table();
     stack::stack_table();
 }
