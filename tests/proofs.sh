@@ -1,8 +1,10 @@
 # The proofs: `rt ci` from nothing, shown as it goes. Its own last line is counted into ours. It waits for each batch of crates and edits before it starts the
 # next, so batches of six keep two processors busy where batches of two would leave one idle.
+# The prover takes and gives back memory all the time: with these settings the C library keeps what it was given, which saves some tenth of the processor time.
 proofs_out=$(mktemp -d)
+proofs_memory=glibc.malloc.trim_threshold=8589934592:glibc.malloc.mmap_threshold=1073741824:glibc.malloc.top_pad=67108864:glibc.malloc.hugetlb=1
 {
-    RT_JOBS=${RT_JOBS:-6} rt ci 2>&1
+    GLIBC_TUNABLES=${GLIBC_TUNABLES:-$proofs_memory} RT_JOBS=${RT_JOBS:-6} rt ci 2>&1
     echo $? >"$proofs_out/status"
 } | tee "$proofs_out/log"
 verdict=$(cat "$proofs_out/status")

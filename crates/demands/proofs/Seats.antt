@@ -34,7 +34,7 @@ use Rattle.promise.specs.Bench.{acts}
 use Rattle.promise.specs.Seats.{Reseated}
 use Rattle.promise.specs.Fitness as promise
 use Rattle.promise.proofs.Refusals.{stands-none}
-use Rattle.promise.proofs.Seats.{reseated, row-after-errors}
+use Rattle.promise.proofs.Seats.{reseated, no-seats, row-after-errors}
 use Rattle.campaign_state.specs.State.{settingOf, momentOf}
 use Rattle.campaign_state.specs.Fitness.{placesFit, fit}
 use Rattle.campaign_state.specs.declared.State.{State}
@@ -111,6 +111,7 @@ unfolding resumedOf leftOf model.after derangements
 reseat-after-error = record {
   comes = comes-so;
   row = λ P cs. row-after-errors (P .plan .ports) (acts (turnsOf cs (begun P))) (comes-so P cs);
+  without = λ P cs e. no-seats (P .plan .ports) (acts (turnsOf cs (begun P))) (comes-so P cs) e;
   bytes = λ P cs. subst (Reseated (P .plan .ports)) (sym (robot-acts P cs)) (comes-so P cs);
   words = λ P ws long cs. subst (Reseated (P .plan .ports)) (sym (robot-same P ws long cs ∙ robot-acts P cs)) (comes-so P cs);
   stays = seat-left mostPorts;

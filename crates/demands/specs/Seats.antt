@@ -18,9 +18,9 @@ use Rattle.line_format.specs.Format.{lineText}
 use Rattle.line_format.specs.Reading.{readOf}
 use Rattle.line_format.specs.Calls.{writeOf}
 use Rattle.panel.specs.Calls.{carryOf, carryBytes}
-use Rattle.promise.specs.Campaign.{Call, request, reportTo, seat, taken, refusal, seatAfter, wanted}
-use Rattle.promise.specs.Bench.{acts}
-use Rattle.promise.specs.Seats.{Reseated, RowAfterErrors}
+use Rattle.promise.specs.Campaign.{Call, request, reportTo, isError, seat, taken, refusal, seatAfter, wanted}
+use Rattle.promise.specs.Bench.{acts, reports}
+use Rattle.promise.specs.Seats.{Reseated, seatsDone, RowAfterErrors}
 use Rattle.campaign_state.specs.State.{settingOf, momentOf}
 use Rattle.campaign_state.specs.Fitness.{fit}
 use Rattle.campaign_state.specs.declared.State.{State}
@@ -38,6 +38,8 @@ pub record ReseatAfterError : Type 0 where
   pub comes : (P : AcceptedPlan) (cs : List Called) → Reseated (P .plan .ports) (acts (turnsOf cs (begun P)))
   -- the same error by error: what happens after one is, as far as it goes, seat 1 to seat n and then its mark
   pub row : (P : AcceptedPlan) (cs : List Called) → RowAfterErrors (P .plan .ports) (acts (turnsOf cs (begun P)))
+  -- so a campaign without errors has no seats: it hands out what it did before the request
+  pub without : (P : AcceptedPlan) (cs : List Called) → reports isError (acts (turnsOf cs (begun P))) ≡ 0 → seatsDone (acts (turnsOf cs (begun P))) ≡ 0
   -- the same of what a robot reads from the bytes alone, and of the calls for C
   pub bytes : (P : AcceptedPlan) (cs : List Called) → Reseated (P .plan .ports) (robotActs cs (begun P))
   pub words : (P : AcceptedPlan) (ws : List ℕ) → length ws ≡ stateCount → (cs : List Called) → Reseated (P .plan .ports) (robotIn cs (beginWords (P .text) ws))

@@ -1,21 +1,22 @@
 -- After an error exactly the seats 1 to n come in turn and then the same mark with its number, and no seat comes but so: of every history, and so of any calls.
+-- So there are never more than n for each error, and without errors none.
 -- Assumes nothing.
 use mathlib.Core.Path.{_≡_, refl, sym, ap, ap₂, _∙_, subst}
 use mathlib.Core.Logic.{_⊎_, inl, inr}
 use mathlib.Core.Bool.{Bool, true, false, not, cond, _&&_, true≢false, and-eq-true-iff}
 use mathlib.Core.List.{List, [], _∷_, _++_}
 use mathlib.Core.Option.{Option, none, some}
-use Prim.Native.Nat.{ℕ, zero, suc, _+_, _<_}
+use Prim.Native.Nat.{ℕ, zero, suc, _+_, _-_, _*_, _≤_, _<_}
 use native.Mathlib.Omega.{arith}
 use lib.ListN.{length, take}
 use lib.Seq.{take-nil}
 use borrow.Author.Tests.{ltb-true, ltb-false}
 use Rattle.listing.proofs.Numbers.{either, is-cases}
 use Rattle.promise.specs.Plan.{Lawful, Accepted}
-use Rattle.promise.specs.Campaign.{State, Call, error, isClosing, Answer, seating, seatAfter, Setting, first, todo}
+use Rattle.promise.specs.Campaign.{State, Call, ran, error, gaveUp, isError, isClosing, Answer, seating, seatAfter, Setting, first, todo}
 use Rattle.promise.specs.Fitness.{Fit}
-use Rattle.promise.specs.Bench.{Turn, run, turns, Act, moves, seats, meets, says, inFront, acts}
-use Rattle.promise.specs.Seats.{dueAfter, Reseats, Reseated, seatDue, rowFrom, lastMark, RowAfterErrors}
+use Rattle.promise.specs.Bench.{Turn, run, turns, Act, moves, seats, meets, says, inFront, acts, reports}
+use Rattle.promise.specs.Seats.{dueAfter, Reseats, Reseated, seatDue, seatsDone, rowFrom, lastMark, RowAfterErrors}
 use Rattle.promise.specs.Onward.{markOf, Past, Agrees, firstPast}
 use Rattle.promise.proofs.Tests.{clash, tells-not}
 use Rattle.promise.proofs.Marks.{closed-so}
@@ -105,6 +106,34 @@ module _ (C : Setting) (lawful : Lawful (C .family)) (accepted : Accepted (C .fa
   pub reseated : (cs : List Call) → Reseated (C .family .ports) (acts (turns C cs))
   unfolding first
   reseated cs = reseats-onward (first C) (fit-first C lawful accepted) (firstPast C) (agrees-first C lawful accepted) cs
+
+-- ---- how many
+
+-- the seats that are still due
+stillDue : ℕ → Option ℕ → ℕ
+stillDue n none = 0
+stillDue n (some j) = suc n - j
+
+-- never more than n for each error, and those that are due
+seats-most : (n : ℕ) (m : ℕ × ℕ) (due : Option ℕ) (xs : List Act) → Reseats n m due xs → seatsDone xs ≤ reports isError xs * n + stillDue n due
+unfolding Reseats seatsDone reports stillDue
+seats-most n m none [] h = omega arith
+seats-most n m (some j) [] h = omega arith
+seats-most n m none (moves o ∷ xs) h = seats-most n m none xs h
+seats-most n m (some j) (moves o ∷ xs) h = absurd h
+seats-most n m none (seats i ∷ xs) h = absurd h
+seats-most n m (some j) (seats i ∷ xs) h = omega (arith, h .1, seats-most n m (some (suc j)) xs (h .2))
+seats-most n m none (meets k r ∷ xs) h = seats-most n (k, r) none xs h
+seats-most n m (some j) (meets k r ∷ xs) h = omega (arith, seats-most n m none xs (h .2))
+seats-most n m none (says ran ∷ xs) h = omega (arith, seats-most n m none xs h)
+seats-most n m none (says error ∷ xs) h = omega (arith, seats-most n m (some 1) xs h)
+seats-most n m none (says gaveUp ∷ xs) h = omega (arith, seats-most n m none xs h)
+seats-most n m (some j) (says w ∷ xs) h = absurd h
+
+-- so without errors there are none
+pub no-seats : (n : ℕ) (xs : List Act) → Reseated n xs → reports isError xs ≡ 0 → seatsDone xs ≡ 0
+unfolding stillDue
+no-seats n xs h e = omega (arith, seats-most n (0, 0) none xs h, ap (λ k. k * n) e)
 
 -- ---- error by error
 

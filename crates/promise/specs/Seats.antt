@@ -39,6 +39,14 @@ Reseated n xs = Reseats n (0, 0) none xs
 abbrev pub seatDue : Setting → State → Past → Option ℕ
 seatDue C s b = cond (seating s) (some (s .toSeat)) (cond (b .again && not (s .standing)) (some (suc (C .family .ports))) none)
 
+-- how many seats are done
+unfoldable pub seatsDone : List Act → ℕ
+seatsDone [] = 0
+seatsDone (moves o ∷ xs) = seatsDone xs
+seatsDone (seats j ∷ xs) = suc (seatsDone xs)
+seatsDone (meets k r ∷ xs) = seatsDone xs
+seatsDone (says w ∷ xs) = seatsDone xs
+
 -- ---- error by error
 
 -- the seats of k jacks from jack j on, and then the mark m
