@@ -27,7 +27,8 @@ use Rattle.campaign_reached.specs.Turns.{campaignOf, Called, callOf, turnsOf, l
 use Rattle.campaign_reached.proofs.Begun.{lawful, accepts}
 use Rattle.campaign_reached.proofs.Own.{own, own-reached}
 use Rattle.campaign_reached.proofs.Reached.{does-there}
-use Rattle.demands.specs.Lives.{Event, made, cut, Possible, through, KeptOf, none, made-kept, row-broken, cut-kept, cut-lost}
+use Rattle.demands.specs.Lives.{Event, made, cut, Possible, through, HasCut, KeptOf, none, made-kept, row-broken, cut-kept}
+use Rattle.demands.specs.Lives.{cut-lost}
 use Rattle.demands.proofs.Onward.{left-fit, onward-left, cut-resumed, anew-fit, reseats-left}
 
 -- ---- seats begun anew
@@ -69,25 +70,25 @@ pub record Kept (es : List Event) (s : State) : Type 0 where
   pub those : KeptOf s es calls
   pub comesOut : through es s ≡ leftAfter calls s
 
--- the same from s on, or from where its seats begin anew
+-- the same from s on, or where a cut is among the events from where its seats begin anew
 record Parted (es : List Event) (s : State) : Type 0 where
   from : State
-  begins : (from ≡ s) ⊎ (from ≡ seatsAnew s)
+  begins : (from ≡ s) ⊎ ((from ≡ seatsAnew s) × HasCut es)
   calls : List Called
   those : KeptOf s es calls
   comesOut : through es s ≡ leftAfter calls from
 
 -- after a call that is kept, or of a row that was broken later
 after-made : (c : Called) (es : List Event) (s : State) → Sized s → fit s ≡ true → Parted es (leftOf (callOf c) s) → Parted (made c ∷ es) s
-unfolding through leftAfter
+unfolding through leftAfter HasCut
 after-made c es s z f r =
     either (row-or-not s z f (callOf c))
-    (λ h. keeps (either (r .begins) (λ e. e) (λ e. e ∙ settled (leftOf (callOf c) s) h)))
+    (λ h. keeps (either (r .begins) (λ e. e) (λ e. e .0 ∙ settled (leftOf (callOf c) s) h)))
     (λ h. either (r .begins) keeps (λ e. record {
       from = r .from;
-      begins = inr (e ∙ h .1);
+      begins = inr (e .0 ∙ h .1, e .1);
       calls = r .calls;
-      those = row-broken c (h .0) (r .those);
+      those = row-broken c (h .0) (e .1) (r .those);
       comesOut = r .comesOut;
     }))
   where
@@ -97,7 +98,7 @@ after-made c es s z f r =
 -- after a cut: what goes on is settled, so it goes on from there
 after-cut : (c : Called) (x : State) (q : List ℕ) (es : List Event) (s y : State) → Sized s → fit s ≡ true → resumedOf x q ≡ seatsAnew y
     → (y ≡ s) ⊎ (y ≡ leftOf (callOf c) s) → Parted es (resumedOf x q) → Parted (cut c x q ∷ es) s
-unfolding through leftAfter
+unfolding through leftAfter HasCut
 after-cut c x q es s y z f g which r =
     either which
     (λ e. loses (from ∙ ap seatsAnew e))
@@ -105,10 +106,10 @@ after-cut c x q es s y z f g which r =
     (λ h. keeps (from ∙ ap seatsAnew e ∙ settled (leftOf (callOf c) s) h)) (λ h. loses (from ∙ ap seatsAnew e ∙ h .1)))
   where
     from : r .from ≡ seatsAnew y
-    from = either (r .begins) (λ e. e ∙ g) (λ e. e ∙ ap seatsAnew g ∙ settled (seatsAnew y) (settled-anew (momentOf y)))
+    from = either (r .begins) (λ e. e ∙ g) (λ e. e .0 ∙ ap seatsAnew g ∙ settled (seatsAnew y) (settled-anew (momentOf y)))
 
     loses : r .from ≡ seatsAnew s → Parted (cut c x q ∷ es) s
-    loses e = record { from = r .from; begins = inr e; calls = r .calls; those = cut-lost c x q (r .those); comesOut = r .comesOut }
+    loses e = record { from = r .from; begins = inr (e, tt); calls = r .calls; those = cut-lost c x q (r .those); comesOut = r .comesOut }
 
     keeps : r .from ≡ leftOf (callOf c) s → Parted (cut c x q ∷ es) s
     keeps e = record { from = s; begins = inl refl; calls = c ∷ r .calls; those = cut-kept c x q (r .those); comesOut = r .comesOut ∙ ap (leftAfter (r .calls)) e }
@@ -130,7 +131,7 @@ parted (cut c x q ∷ es) s z f h =
 kept : (es : List Event) (s : State) → Sized s → fit s ≡ true → s .seat ≤ 1 → Possible es s → Kept es s
 kept es s z f n h =
     let r = parted es s z f h in
-    let from : r .from ≡ s = either (r .begins) (λ e. e) (λ e. e ∙ settled s n) in
+    let from : r .from ≡ s = either (r .begins) (λ e. e) (λ e. e .0 ∙ settled s n) in
     record { calls = r .calls; those = r .those; comesOut = r .comesOut ∙ ap (leftAfter (r .calls)) from }
 
 -- what a bench went through, from the fit state s on

@@ -35,12 +35,18 @@ through [] s = s
 through (made c ∷ es) s = through es (leftOf (callOf c) s)
 through (cut c x q ∷ es) s = through es (resumedOf x q)
 
+-- the power fails in one of the events
+unfoldable pub HasCut : List Event → Type 0
+HasCut [] = ⊥
+HasCut (made c ∷ es) = HasCut es
+HasCut (cut c x q ∷ es) = Unit {0}
+
 -- the calls that are kept, from state s on: each that is made, and of those in which the power fails some; the seats of a row that a later cut broke are lost
 -- with it, since the row begins anew
 pub data KeptOf : State → List Event → List Called → Type 0 where
   none : {s : State} → KeptOf s [] []
   made-kept : {s : State} {es : List Event} {cs : List Called} (c : Called) → KeptOf (leftOf (callOf c) s) es cs → KeptOf s (made c ∷ es) (c ∷ cs)
-  row-broken : {s : State} {es : List Event} {cs : List Called} (c : Called) → OfRow (answerOf (callOf c) s) → KeptOf (leftOf (callOf c) s) es cs
+  row-broken : {s : State} {es : List Event} {cs : List Called} (c : Called) → OfRow (answerOf (callOf c) s) → HasCut es → KeptOf (leftOf (callOf c) s) es cs
       → KeptOf s (made c ∷ es) cs
   cut-kept : {s : State} {es : List Event} {cs : List Called} (c : Called) (x : State) (q : List ℕ) → KeptOf (resumedOf x q) es cs
       → KeptOf s (cut c x q ∷ es) (c ∷ cs)

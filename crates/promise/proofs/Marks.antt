@@ -166,7 +166,7 @@ module _ (C : Setting) (lawful : Lawful (C .family)) (accepted : Accepted (C .fa
   meets-so (then f (errs st lt) h) = meets-so h
   meets-so (then f (refuses k n) h) = meets-so h
 
-  -- ---- after an error the panel is at the mark's pattern, and the same mark comes with no order between
+  -- ---- after an error the panel is at the mark's pattern, and the same mark comes with no movement between
   pub again-so : {s : State} {ts : List Turn} (again : Bool) (m : ℕ × ℕ) → (again ≡ true → (m ≡ markOf C s) × (todo C s ≡ some []))
       → (s .standing ≡ true → m ≡ markOf C s) → History C s ts → Again again m (acts ts)
   unfolding acts Again

@@ -25,7 +25,7 @@ use Rattle.promise.proofs.Promise.{promise}
 use Rattle.promise.proofs.Seats.{reseats-onward}
 use Rattle.promise_onward.specs.Resume.{anew, Settled, resumed}
 use Rattle.promise_onward.specs.Cuts.{left, Cut}
-use Rattle.promise_onward.specs.Lives.{Event, made, cut, Possible, through, Moment, kept, lost, OfRow, AreMoments, none, made-kept, row-broken}
+use Rattle.promise_onward.specs.Lives.{Event, made, cut, Possible, through, Moment, kept, lost, OfRow, HasCut, AreMoments, none, made-kept, row-broken}
 use Rattle.promise_onward.specs.Lives.{cut-kept, cut-lost}
 use Rattle.promise_onward.specs.Lives.{keptCalls, lostInFront, happened, NextIs, LostAgain, Lived, LivedThrough}
 use Rattle.promise_onward.proofs.Panels.{anew-settled, anew-seating, settled-anew, none-or-one, fit-anew}
@@ -176,29 +176,29 @@ module _ (C : Setting) (lawful : Lawful (C .family)) (accepted : Accepted (C .fa
   settled-or-row f (errs st lt) = inl (omega arith)
   settled-or-row f (refuses k n) = inr (tt, refl)
 
-  -- the state y is s, or s with its seats begun anew
-  Begins : State → State → Type 0
-  Begins s y = (y ≡ s) ⊎ (y ≡ anew s)
+  -- the state y is s; or, where a cut is among the events, s with its seats begun anew
+  Begins : List Event → State → State → Type 0
+  Begins es s y = (y ≡ s) ⊎ ((y ≡ anew s) × HasCut es)
 
   -- so it is, moment by moment, calls kept and lost, and the bench comes out with the state that the kept ones leave, from s on or from where its seats begin
   record Parted (es : List Event) (s : State) : Type 0 where
     from : State
-    begins : Begins s from
+    begins : Begins es s from
     moments : List Moment
     those : AreMoments C s es moments
     comesOut : through C es s ≡ leaves from (run C (keptCalls moments) from)
 
   -- after a call that is kept, or of a row that was broken later
   after-made : (c : Call) (es : List Event) (s : State) → Fit C s → Parted es (left C c s) → Parted (made c ∷ es) s
-  unfolding through keptCalls run leaves Begins
+  unfolding through keptCalls run leaves Begins HasCut
   after-made c es s f r =
       either (settled-or-row f (does-so C s f c))
-      (λ h. keeps (either (r .begins) (λ e. e) (λ e. e ∙ anew-settled (left C c s) h)))
+      (λ h. keeps (either (r .begins) (λ e. e) (λ e. e .0 ∙ anew-settled (left C c s) h)))
       (λ h. either (r .begins) keeps (λ e. record {
         from = r .from;
-        begins = inr (e ∙ h .1);
+        begins = inr (e .0 ∙ h .1, e .1);
         moments = lost c ∷ r .moments;
-        those = row-broken c (h .0) (r .those);
+        those = row-broken c (h .0) (e .1) (r .those);
         comesOut = r .comesOut;
       }))
     where
@@ -214,11 +214,11 @@ module _ (C : Setting) (lawful : Lawful (C .family)) (accepted : Accepted (C .fa
   -- what is taken up after a cut goes on from where it begins
   from-anew : (s : State) (q : List ℕ) (x y : State) → resumed q x ≡ y → (es : List Event) → (r : Parted es (resumed q x)) → r .from ≡ y
   unfolding Begins
-  from-anew s q x y e es r = either (r .begins) (λ h. h ∙ e) (λ h. h ∙ anew-settled (resumed q x) (settled-anew (withPanel q x)) ∙ e)
+  from-anew s q x y e es r = either (r .begins) (λ h. h ∙ e) (λ h. h .0 ∙ anew-settled (resumed q x) (settled-anew (withPanel q x)) ∙ e)
 
   -- after a cut
   after-cut : (c : Call) (x : State) (q : List ℕ) (es : List Event) (s : State) → Fit C s → Cut C c s x q → Parted es (resumed q x) → Parted (cut c x q ∷ es) s
-  unfolding through keptCalls run leaves Begins
+  unfolding through keptCalls run leaves Begins HasCut
   after-cut c x q es s f k r =
       either (cut-state c s f x q k) loses (λ e.
       either (settled-or-row f (does-so C s f c)) (λ h. keeps (e ∙ anew-settled (left C c s) h)) (λ h. loses (e ∙ h .1)))
@@ -226,7 +226,7 @@ module _ (C : Setting) (lawful : Lawful (C .family)) (accepted : Accepted (C .fa
       loses : resumed q x ≡ anew s → Parted (cut c x q ∷ es) s
       loses e = record {
         from = r .from;
-        begins = inr (from-anew s q x (anew s) e es r);
+        begins = inr (from-anew s q x (anew s) e es r, tt);
         moments = lost c ∷ r .moments;
         those = cut-lost c x q (r .those);
         comesOut = r .comesOut;
@@ -253,7 +253,7 @@ module _ (C : Setting) (lawful : Lawful (C .family)) (accepted : Accepted (C .fa
   unfolding Begins
   moments-so es s f z h =
       let r = parted es s f h in
-      let from : r .from ≡ s = either (r .begins) (λ e. e) (λ e. e ∙ anew-settled s z) in
+      let from : r .from ≡ s = either (r .begins) (λ e. e) (λ e. e .0 ∙ anew-settled s z) in
       (r .moments, r .those, r .comesOut ∙ ap (λ y. leaves y (run C (keptCalls (r .moments)) y)) from)
 
   -- from any fit state on that is settled, as the first is and each that is taken up

@@ -45,12 +45,18 @@ OfRow (theEnd k) = ⊥
 OfRow taken = ⊥
 OfRow (refusal k) = Unit {0}
 
+-- the power fails in one of the events
+unfoldable pub HasCut : List Event → Type 0
+HasCut [] = ⊥
+HasCut (made c ∷ es) = HasCut es
+HasCut (cut c x q ∷ es) = Unit {0}
+
 -- the moments are those of the events from state s on: a call that is made is kept, and one in which the power fails is kept or lost; the seats of a row that
 -- a later cut broke are lost with it, since the row begins anew
 pub data AreMoments (C : Setting) : State → List Event → List Moment → Type 0 where
   none : {s : State} → AreMoments C s [] []
   made-kept : {s : State} {es : List Event} {ms : List Moment} (c : Call) → AreMoments C (left C c s) es ms → AreMoments C s (made c ∷ es) (kept c ∷ ms)
-  row-broken : {s : State} {es : List Event} {ms : List Moment} (c : Call) → OfRow (answer C c s) → AreMoments C (left C c s) es ms
+  row-broken : {s : State} {es : List Event} {ms : List Moment} (c : Call) → OfRow (answer C c s) → HasCut es → AreMoments C (left C c s) es ms
       → AreMoments C s (made c ∷ es) (lost c ∷ ms)
   cut-kept : {s : State} {es : List Event} {ms : List Moment} (c : Call) (x : State) (q : List ℕ) → AreMoments C (resumed q x) es ms
       → AreMoments C s (cut c x q ∷ es) (kept c ∷ ms)
