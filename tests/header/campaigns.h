@@ -155,6 +155,14 @@ static void want_next(uint64_t leg, uint64_t step)
     want[JIDROFEX_STATE_STEP] = step;
 }
 
+/* An error more is counted: the mark stands no more, and jack 1 is the next to seat. */
+static void want_error(void)
+{
+    want[JIDROFEX_STATE_ERRORS]++;
+    want[JIDROFEX_STATE_STANDING] = 0;
+    want[JIDROFEX_STATE_SEAT] = 1;
+}
+
 static void reported(const char *what, uint8_t kind)
 {
     gives_nothing(what, jidrofex_report(state, JIDROFEX_STATE_WORDS, kind, fresh()));
@@ -207,17 +215,13 @@ static void example_campaign(void)
     not_twice(0, JIDROFEX_RAN);
 
     mark_is(0, 0, "mark=0,0\n");
-    want[JIDROFEX_STATE_ERRORS] = 1;
-    want_next(0, 0);
-    want[JIDROFEX_STATE_SEAT] = 1;
+    want_error();
     reported("an error", JIDROFEX_ERROR);
     status_is("status after an error", 0, 0);
     not_twice(0, JIDROFEX_ERROR);
     seats_are(4, 0, 0);
     mark_is(0, 0, "mark=0,0\n");
-    want[JIDROFEX_STATE_ERRORS] = 2;
-    want_next(0, 0);
-    want[JIDROFEX_STATE_SEAT] = 1;
+    want_error();
     reported_mark("an error by its mark", 0, JIDROFEX_ERROR);
     seats_are(4, 0, 0);
     mark_is(0, 0, "mark=0,0\n");
@@ -280,9 +284,7 @@ static void seats(void)
     reported("given up, and no seat", JIDROFEX_GAVE_UP);
     mark_is(1, 0, "mark=1,0\n");
     for (times = 1; times <= 2; times++) {
-        want[JIDROFEX_STATE_ERRORS]++;
-        want_next(1, 0);
-        want[JIDROFEX_STATE_SEAT] = 1;
+        want_error();
         reported_mark("an error on 2 ports", 1, JIDROFEX_ERROR);
         seats_are(2, 1, 0);
         mark_is(1, 0, "mark=1,0\n");
@@ -300,9 +302,7 @@ static void seats(void)
     want[JIDROFEX_STATE_COVERED] = 3;
     want[JIDROFEX_STATE_STANDING] = 1;
     memcpy(state, want, sizeof state);
-    want[JIDROFEX_STATE_ERRORS] = 1;
-    want_next(1, 0);
-    want[JIDROFEX_STATE_SEAT] = 1;
+    want_error();
     reported_mark("an error at mark 3", 3, JIDROFEX_ERROR);
     seats_are(4, 3, 8);
     mark_is(3, 8, "mark=3,8\n");
@@ -545,9 +545,7 @@ static void going_on(void)
     mark_is(1, 1, "mark=1,1\n");
 
     /* while seating the mark's pattern alone, and the seats begin anew: after the error, after a seat, before the last; when the last is given there are none */
-    want[JIDROFEX_STATE_ERRORS] = 1;
-    want_next(0, 1);
-    want[JIDROFEX_STATE_SEAT] = 1;
+    want_error();
     reported("an error", JIDROFEX_ERROR);
     is_unfit_with("resume while seating", "2341");
     resumes("resume before the first seat", "3421");

@@ -9,6 +9,7 @@ mod named;
 mod numbered;
 mod rehearsals;
 mod repeated;
+mod seating;
 mod seats;
 mod sentences;
 
@@ -23,6 +24,7 @@ use named::*;
 use numbered::*;
 use rehearsals::*;
 use repeated::*;
+use seating::*;
 use seats::*;
 use sentences::*;
 

@@ -10,9 +10,11 @@ use borrow.Rule.Slice.PartMut.{midOf, putMid, mid-len, post-is}
 use Rattle.promise.specs.Campaign as model
 use Rattle.promise.specs.Campaign.{request}
 use Rattle.campaign_state.specs.declared.State.{State}
-use Rattle.campaign.specs.Answers.{RequestIs}
+use Rattle.words.specs.Told.{accepted}
+use Rattle.campaign.specs.Answers.{RequestIs, answerTold}
 use Rattle.campaign.specs.Calls.{answerOf, after, leftOf, bytesOf}
 use Rattle.campaign.specs.declared.Requested.{Requested}
+use Rattle.campaign.proofs.Tells.{told-given}
 use Rattle.printing.specs.Printing.{asRun, sequel}
 use Rattle.printing.specs.Answers.{sequelTold, GivenIs}
 use Rattle.printing.specs.declared.Given.{Given}
@@ -53,3 +55,13 @@ module _ (s : State) (b : List ℕ) (at : ℕ) (h : at ≤ length b) where
     state = st ∙ ap (asRun a) (R .state) ∙ ap (λ x. asRun x (after (request room) (answerOf (request room) s) s)) (sym e);
     place = p ∙ ap (λ k. at + k) (R .written);
   }
+
+  -- where a line was given: what follows, and the buffer
+  pub line-given : (r : Requested) (g : Given) (ys : List ℕ) {a : model.Answer}
+      → RequestIs (request (length (midOf at room b))) (answerOf (request (length (midOf at room b))) s) s r × (ys ≡ bytesOf s (midOf at room b))
+      → answerTold (r .answer) ≡ accepted a → sequelTold (g .sequel) ≡ sequel a
+      → g .campaign .state ≡ asRun a (r .campaign .state) → g .at ≡ at + r .written
+      → GivenIs room at s g × (putMid at room b ys ≡ take at b ++ bytesOf s (drop at b))
+  line-given r g ys {a} Q e t st p =
+      let R = part-asked r (Q .0) in
+      (given-as a r g R (told-given _ (sym (R .answer) ∙ e)) t st p, part-bytes ys (Q .1))

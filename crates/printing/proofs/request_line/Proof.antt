@@ -7,8 +7,8 @@ use borrow.Author.Needs.{needs}
 use Rattle.promise.specs.Campaign.{request}
 use Rattle.campaign.specs.Answers.{answerTold}
 use Rattle.campaign.specs.Calls.{toldOf}
-use Rattle.campaign.proofs.Tells.{told-given, told-refused, left-so, retold, within-room}
-use Rattle.printing.proofs.Parts.{part-asked, part-bytes, given-as}
+use Rattle.campaign.proofs.Tells.{told-refused, left-so, retold, within-room}
+use Rattle.printing.proofs.Parts.{part-asked, part-bytes, given-as, line-given}
 use Rattle.printing.proofs.request_line.Statement.{statement}
 use Rattle.printing.proofs.request_line.Tie as tie
 
@@ -24,41 +24,29 @@ returns : tie.Need-returns
 returns c =
     let w = c .before .before .before .before .before .before in
     let s = w .before .before .before in
-    let R = part-asked (s .args .c .state) (s .args .buf .now) (s .args .at) (s .pre) (w .request .result) (w .request .ensures .0) in
-    let e = told-given _ (sym (R .answer) ∙ ap answerTold (c .enum-told .given .1)) in (
-      given-as (s .args .c .state) (s .args .buf .now) (s .args .at) (s .pre) _ (w .request .result) _ R e refl refl refl,
-      part-bytes (s .args .c .state) (s .args .buf .now) (s .args .at) (s .pre) _ (w .request .ensures .1),
-    )
+    line-given (s .args .c .state) (s .args .buf .now) (s .args .at) (s .pre) (w .request .result) _ _
+      (w .request .ensures) (ap answerTold (c .enum-told .given .1)) refl refl refl
 
 returns-2 : tie.Need-returns-2
 returns-2 c =
     let w = c .before .before .before .before .before .before in
     let s = w .before .before .before in
-    let R = part-asked (s .args .c .state) (s .args .buf .now) (s .args .at) (s .pre) (w .request .result) (w .request .ensures .0) in
-    let e = told-given _ (sym (R .answer) ∙ ap answerTold (c .enum-told2 .given .1)) in (
-      given-as (s .args .c .state) (s .args .buf .now) (s .args .at) (s .pre) _ (w .request .result) _ R e refl refl refl,
-      part-bytes (s .args .c .state) (s .args .buf .now) (s .args .at) (s .pre) _ (w .request .ensures .1),
-    )
+    line-given (s .args .c .state) (s .args .buf .now) (s .args .at) (s .pre) (w .request .result) _ _
+      (w .request .ensures) (ap answerTold (c .enum-told2 .given .1)) refl refl refl
 
 returns-3 : tie.Need-returns-3
 returns-3 c =
     let w = c .before .before .before .before .before .before .before .before in
     let s = w .before .before .before in
-    let R = part-asked (s .args .c .state) (s .args .buf .now) (s .args .at) (s .pre) (w .request .result) (w .request .ensures .0) in
-    let e = told-given _ (sym (R .answer) ∙ ap answerTold (c .before .before .enum-told3 .given .1)) in (
-      given-as (s .args .c .state) (s .args .buf .now) (s .args .at) (s .pre) _ (w .request .result) _ R e refl (left-so _ _ (c .before .report .ensures .state)) refl,
-      part-bytes (s .args .c .state) (s .args .buf .now) (s .args .at) (s .pre) _ (w .request .ensures .1),
-    )
+    line-given (s .args .c .state) (s .args .buf .now) (s .args .at) (s .pre) (w .request .result) _ _
+      (w .request .ensures) (ap answerTold (c .before .before .enum-told3 .given .1)) refl (left-so _ _ (c .before .report .ensures .state)) refl
 
 returns-4 : tie.Need-returns-4
 returns-4 c =
     let w = c .before .before .before .before .before .before in
     let s = w .before .before .before in
-    let R = part-asked (s .args .c .state) (s .args .buf .now) (s .args .at) (s .pre) (w .request .result) (w .request .ensures .0) in
-    let e = told-given _ (sym (R .answer) ∙ ap answerTold (c .enum-told4 .given .1)) in (
-      given-as (s .args .c .state) (s .args .buf .now) (s .args .at) (s .pre) _ (w .request .result) _ R e refl refl refl,
-      part-bytes (s .args .c .state) (s .args .buf .now) (s .args .at) (s .pre) _ (w .request .ensures .1),
-    )
+    line-given (s .args .c .state) (s .args .buf .now) (s .args .at) (s .pre) (w .request .result) _ _
+      (w .request .ensures) (ap answerTold (c .enum-told4 .given .1)) refl refl refl
 
 returns-5 : tie.Need-returns-5
 returns-5 c =
