@@ -4,6 +4,7 @@
 //! - `list`: the list of patterns, check, count, rank, unrank, next, previous, the signed step
 //! - `circuit`: the list once more, as document 000's procedures gen_up and gen_down produce it, pattern by pattern
 //! - `relations`: one neighbour by relations (3) to (9), without walking the list: the plain Rust that the speed table times
+//! - `levels`: the parts of the list that hold a pattern, level by level, and what `bin/explain` is to print
 //! - `dictionary`: the same patterns in dictionary order: number, pattern, next, and translation to our rank and back
 //! - `plain`: dictionary numbers, ranks and their patterns on arrays: the plain Rust that the speed table times
 //! - `panel`: look-ups and orders carried out
@@ -18,6 +19,7 @@
 pub mod campaign;
 pub mod circuit;
 pub mod dictionary;
+pub mod levels;
 pub mod list;
 pub mod named;
 pub mod panel;

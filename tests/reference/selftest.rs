@@ -1,14 +1,15 @@
 //! The reference held to what is printed: document 000's tables for 4 and 5 ports, the paper's 'Cases to prove' and 'To run', the paper's example;
 //! to the rules of a campaign, the seats after an error, the header's words for controllers, both jacks of a repeated entry for every pair of jacks, and
 //! demand three on full circuits; to what plans name, worked by hand, and to dictionary numbers counted by hand; and to itself: three ways to the list (the
-//! definition, the procedures, the relations) over every circuit of 2 to 8 ports, two ways to the gaps of a plan, and dictionary numbers by counting and by a
-//! list.
+//! definition, the procedures, the relations) over every circuit of 2 to 8 ports, two ways to the gaps of a plan, dictionary numbers by counting and by a
+//! list, and the levels of a pattern looked up and by its place.
 //! Ends in a line with the number of comparisons, or in the first one that does not hold.
 
 mod controllers;
 mod gaps;
 mod jacks;
 mod numbers;
+mod parts;
 mod rules;
 mod seats;
 mod tables;
@@ -227,6 +228,8 @@ fn main() {
     gaps::small_plans(&mut compared);
     numbers::counted_by_hand(&mut compared);
     numbers::refusals(&mut compared);
+    parts::by_hand(&mut compared);
+    parts::refusals(&mut compared);
     compared.same("the paper's example", print(PLAN), OUTPUT.to_vec());
     let plan = read_plan(PLAN).expect("the paper's plan is accepted");
     let (text, ended, _) = Rehearsal::first(plan.clone()).orders(1024).expect("its orders fit");
@@ -239,10 +242,12 @@ fn main() {
     for n in 2..=8 {
         tables::circuit(n, &mut compared);
         numbers::whole(n, &mut compared);
+        parts::whole(n, &mut compared);
     }
     for n in 9..=20 {
         tables::joins(n, &mut compared);
         numbers::spread(n, &mut compared);
+        parts::spread(n, &mut compared);
     }
     for n in 2..=6 {
         for start in [0, count_of(n) / 2, count_of(n) - 1] {

@@ -54,12 +54,13 @@ fn passed_over(forward: bool, n: u8, c: Came) -> u64
 }
 
 // One level of the place of the pattern in p, whose inverse is in q, in the list read forward or backward. The shorter pattern is left there.
-fn level(forward: bool, p: &mut [u8; LONGEST], q: &mut [u8; LONGEST], n: u8) -> Level
+pub fn level(forward: bool, p: &mut [u8; LONGEST], q: &mut [u8; LONGEST], n: u8) -> Level
     requires { ⌜ (length (now p) ≡ mostPorts) × (length (now q) ≡ mostPorts) × (2 ≤ n) × (n ≤ mostPorts) × WithInverse n (now p) (now q) ⌝ }
     ensures { λ r. ⌜ LevelOf forward n (take n (now (p .entry))) r (now (p .exit)) (now (q .exit)) ⌝ }
 {
     let c = peel(p, q, n);
     Level {
+        came: c,
         passed: passed_over(forward, n, c),
         forward: comes_first(forward, c),
         ports: ports_below(c, n),

@@ -25,28 +25,28 @@ returns c =
     let w = c .before .before .before .before .before .before in
     let s = w .before .before .before in
     line-given (s .args .c .state) (s .args .buf .now) (s .args .at) (s .pre) (w .request .result) _ _
-      (w .request .ensures) (ap answerTold (c .enum-told .given .1)) refl refl refl
+    (w .request .ensures) (ap answerTold (c .enum-told .given .1)) refl refl refl
 
 returns-2 : tie.Need-returns-2
 returns-2 c =
     let w = c .before .before .before .before .before .before in
     let s = w .before .before .before in
     line-given (s .args .c .state) (s .args .buf .now) (s .args .at) (s .pre) (w .request .result) _ _
-      (w .request .ensures) (ap answerTold (c .enum-told2 .given .1)) refl refl refl
+    (w .request .ensures) (ap answerTold (c .enum-told2 .given .1)) refl refl refl
 
 returns-3 : tie.Need-returns-3
 returns-3 c =
     let w = c .before .before .before .before .before .before .before .before in
     let s = w .before .before .before in
     line-given (s .args .c .state) (s .args .buf .now) (s .args .at) (s .pre) (w .request .result) _ _
-      (w .request .ensures) (ap answerTold (c .before .before .enum-told3 .given .1)) refl (left-so _ _ (c .before .report .ensures .state)) refl
+    (w .request .ensures) (ap answerTold (c .before .before .enum-told3 .given .1)) refl (left-so _ _ (c .before .report .ensures .state)) refl
 
 returns-4 : tie.Need-returns-4
 returns-4 c =
     let w = c .before .before .before .before .before .before in
     let s = w .before .before .before in
     line-given (s .args .c .state) (s .args .buf .now) (s .args .at) (s .pre) (w .request .result) _ _
-      (w .request .ensures) (ap answerTold (c .enum-told4 .given .1)) refl refl refl
+    (w .request .ensures) (ap answerTold (c .enum-told4 .given .1)) refl refl refl
 
 returns-5 : tie.Need-returns-5
 returns-5 c =
