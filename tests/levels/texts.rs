@@ -21,7 +21,7 @@ use std::env::args;
 use std::fs;
 use std::io;
 
-/// An input. Where its fault is is for people and for the test to count, the group and the jack are what it is held to.
+/// An input. It is held to its group and its jack; the places of the faults, each in a word, are counted by the test.
 struct Input {
     group: String,
     place: &'static str,
@@ -44,18 +44,18 @@ fn every() -> impl Iterator<Item = Input> {
     (2..=6).flat_map(|n| (0..count_of(n)).map(move |rank| good("every", &at(n, rank))))
 }
 
-/// Of each number of ports from 7 to 20: the first two and the last two ranks; the first and the last of some parts of relation (2), so that all i are met; and
-/// some by chance, of which many are first or last in a shorter list.
+/// Of each number of ports from 7 to 20: the first two and the last two ranks; the first and the last of half of the parts of relation (2); and some by chance,
+/// of which many are made of the first or the last of a shorter list.
 fn spread(rng: &mut Rng) -> Vec<Input> {
     let mut inputs = vec![];
     for n in 7..=20 {
         let count = count_of(n);
         inputs.extend([0, 1, count - 2, count - 1].map(|rank| good("ends", &at(n, rank))));
-        let (mut over, turn) = (0, rng.below(2));
+        let mut over = 0;
         for (k, part) in parts(n, Read::Forward).iter().enumerate() {
             let there = count_of(part.shorter(n));
-            // of the two parts of a block the one and of those of the next block the other, each with both of its ends
-            if (k / 2 + k) % 2 == turn {
+            // of the two parts of each block the first for even n, the second for odd n: so A and B by turns, from either
+            if k % 2 == n % 2 {
                 inputs.extend([over, over + there - 1].map(|rank| good("parts", &at(n, rank))));
             }
             over += there;
@@ -123,6 +123,7 @@ fn not_plain() -> Vec<Input> {
     inputs.extend(at_three_jacks(8, &[1 << 64, 10 << 64, 1 << 65, 1 << 72, 1 << 96].map(above)));
     let lines: [(usize, &[u8]); 5] = [(1, b"\xff\xfe2\x00,\x001\x00"), (2, b"2,\xff"), (1, b"\xef\xbb\xbf2,1"), (2, b"2,1\x80"), (1, b"\xb2,1")];
     inputs.extend(lines.map(|(jack, line)| fault(8, jack, line)));
+    inputs.extend(faults(8, &[(2, "2,1\r"), (5, "5,4,2,3,1\r"), (5, "5,4,2,3,1 "), (5, "5,4,2,3,1\0")]));
     inputs
 }
 
@@ -262,12 +263,12 @@ fn of_1024_bytes() -> Vec<Input> {
 fn damaged(rng: &mut Rng) -> Input {
     let n = patterns::ports(rng);
     let mut p = patterns::pattern(rng, n);
-    let in_entries = rng.chance(50);
-    if in_entries {
+    let changes = rng.below(4);
+    if changes == 0 {
         patterns::damage_entries(rng, &mut p);
     }
     let mut bytes = format!("{}\n", entries(&p)).into_bytes();
-    for _ in 0..if in_entries { 0 } else { rng.between(1, 3) } {
+    for _ in 0..changes {
         let (place, byte) = (rng.below(bytes.len()), rng.pick(b"00112239,,,\n\n\r \0-+x/:\xff"));
         match rng.below(3) {
             0 => bytes[place] = byte,
@@ -278,6 +279,12 @@ fn damaged(rng: &mut Rng) -> Input {
     Input { group: "damaged".into(), place: "-", jack: 0, bytes }
 }
 
+/// The front of an input for people: bytes that are no letters, digits or signs by their numbers.
+fn shown(bytes: &[u8]) -> String {
+    let byte = |&byte: &u8| if byte.is_ascii_graphic() && byte != b'\\' { char::from(byte).to_string() } else { format!("<{byte:02x}>") };
+    format!("{} ({} bytes)", bytes.iter().take(70).map(byte).collect::<String>(), bytes.len())
+}
+
 fn main() -> io::Result<()> {
     let folder = args().nth(1).expect("usage: texts FOLDER");
     let mut rng = Rng::of(20, "levels", 0);
@@ -285,7 +292,7 @@ fn main() -> io::Result<()> {
     for some in [not_plain(), none_of_the_ports(), with_pairs(), with_own_numbers(), of_other_lengths(), of_two_faults(), of_the_newline(), of_1024_bytes()] {
         inputs.extend(some);
     }
-    inputs.extend((0..160).map(|_| damaged(&mut rng)));
+    inputs.extend((0..200).map(|_| damaged(&mut rng)));
     let mut list = String::new();
     for made in ["texts", "wanted"] {
         fs::create_dir(format!("{folder}/{made}"))?;
@@ -295,8 +302,7 @@ fn main() -> io::Result<()> {
         wanted.extend(format!("status={status}\n").bytes());
         fs::write(format!("{folder}/texts/{name}"), bytes)?;
         fs::write(format!("{folder}/wanted/{name}"), wanted)?;
-        let shown: String = bytes.escape_ascii().to_string().chars().take(70).collect();
-        list += &format!("{name} {group} {place} {jack} {shown} ({} bytes)\n", bytes.len());
+        list += &format!("{name} {group} {place} {jack} {}\n", shown(bytes));
     }
     fs::write(format!("{folder}/list"), list)
 }

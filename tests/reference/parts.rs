@@ -2,34 +2,39 @@
 //! rebuilt from their levels; and what is printed of inputs that are refused.
 
 use crate::{pattern, Compared};
-use reference::levels::{by_place, explained, looked_up, parts, patterns, Level, Read};
+use reference::levels::{self, by_place, looked_up, parts, patterns, Level, Read};
 use reference::list::{at, count_of, origin, place};
 
-fn printed(text: &str) -> (Vec<u8>, i32) {
-    (text.as_bytes().to_vec(), 0)
+fn explained(input: &str) -> (String, i32) {
+    let (printed, status) = levels::explained(input.as_bytes());
+    (String::from_utf8(printed).expect("what is printed is text"), status)
+}
+
+fn printed(text: &str) -> (String, i32) {
+    (text.to_string(), 0)
 }
 
 /// Worked by hand on the table of document 000 for 4 and 5 ports, of which row 10 is 54231.
 pub fn by_hand(compared: &mut Compared) {
-    compared.same("2 ports", explained(b"2,1\n"), printed("rank=0\n"));
+    compared.same("2 ports", explained("2,1\n"), printed("rank=0\n"));
     // the list for 3 is A(1) of 21, and A(2) of 21 read backward
-    compared.same("3 ports, first", explained(b"2,3,1\n"), printed("level=3 last=1 by=A read=forward over=0\nrank=0\n"));
-    compared.same("3 ports, last", explained(b"3,1,2\n"), printed("level=3 last=2 by=A read=backward over=1\nrank=1\n"));
+    compared.same("3 ports, first", explained("2,3,1\n"), printed("level=3 last=1 by=A read=forward over=0\nrank=0\n"));
+    compared.same("3 ports, last", explained("3,1,2\n"), printed("level=3 last=2 by=A read=backward over=1\nrank=1\n"));
     // rows 3 and 4 of the list for 4: after A(1) of 231 and 312 come B(1) of 21 read backward, and B(2) of it
-    compared.same("4 ports, row 3", explained(b"4,3,2,1\n"), printed("level=4 last=1 by=B read=backward over=2\nrank=2\n"));
-    compared.same("4 ports, row 4", explained(b"3,4,1,2\n"), printed("level=4 last=2 by=B read=forward over=3\nrank=3\n"));
+    compared.same("4 ports, row 3", explained("4,3,2,1\n"), printed("level=4 last=1 by=B read=backward over=2\nrank=2\n"));
+    compared.same("4 ports, row 4", explained("3,4,1,2\n"), printed("level=4 last=2 by=B read=forward over=3\nrank=3\n"));
     // A(2) is over 231 and 312 read backward: 312 is the first of them, and its own part, A(2) of 21 read backward, is now read forward
     let row_5 = "level=4 last=2 by=A read=backward over=4\nlevel=3 last=2 by=A read=forward over=0\nrank=4\n";
-    compared.same("4 ports, row 5", explained(b"3,1,4,2\n"), printed(row_5));
+    compared.same("4 ports, row 5", explained("3,1,4,2\n"), printed(row_5));
     let row_6 = "level=4 last=2 by=A read=backward over=4\nlevel=3 last=1 by=A read=backward over=1\nrank=5\n";
-    compared.same("4 ports, row 6", explained(b"4,3,1,2\n"), printed(row_6));
+    compared.same("4 ports, row 6", explained("4,3,1,2\n"), printed(row_6));
     // the nine of A(1) come before B(1), which is over 231 and 312 read backward, 312 first
     let row_10 = "level=5 last=1 by=B read=backward over=9\nlevel=3 last=2 by=A read=forward over=0\nrank=9\n";
-    compared.same("5 ports, row 10", explained(b"5,4,2,3,1\n"), printed(row_10));
+    compared.same("5 ports, row 10", explained("5,4,2,3,1\n"), printed(row_10));
     // A(2) has rows 14 to 22, over the list for 4 read backward, in which 3412 is the sixth: B(3), of one, A(3), of two, and A(2), of two, come before B(2)
     let row_19 = "level=5 last=2 by=A read=backward over=13\nlevel=4 last=2 by=B read=backward over=5\nrank=18\n";
     compared.same("the shorter pattern of row 19", origin(&pattern("34152")).2, pattern("3412"));
-    compared.same("5 ports, row 19", explained(b"3,4,1,5,2\n"), printed(row_19));
+    compared.same("5 ports, row 19", explained("3,4,1,5,2\n"), printed(row_19));
     for n in 3..=20 {
         compared.same("two parts for each block", parts(n, Read::Forward).len(), 2 * (n - 1));
         for read in [Read::Forward, Read::Backward] {
@@ -56,7 +61,7 @@ fn holds(compared: &mut Compared, p: &[u8], levels: &[Level]) {
 /// one back where it is read backward.
 fn read_on(compared: &mut Compared, here: &[u8], next: &[u8]) {
     let (mut here, mut next) = (here.to_vec(), next.to_vec());
-    for (level, beside) in by_place(&here.clone()).iter().zip(by_place(&next.clone())) {
+    for (level, beside) in by_place(&here).iter().zip(by_place(&next)) {
         if *level != beside {
             return;
         }
@@ -141,6 +146,6 @@ pub fn refusals(compared: &mut Compared) {
         ("3,2,2\n", own(2)),
     ];
     for (input, wanted) in faults {
-        compared.same("a refused input", explained(input.as_bytes()), (wanted.into_bytes(), 65));
+        compared.same("a refused input", explained(input), (wanted, 65));
     }
 }

@@ -28,8 +28,8 @@ use Rattle.plan_rules.specs.Rules.{legsOf, planRuled}
 use Rattle.plan_rules.proofs.Marks.{count-within}
 use Rattle.plans.specs.Calls.{readPlanOf}
 use Rattle.plans.proofs.Plans.{accepted-fits}
-use Rattle.text_entries.specs.Entries.{entriesOf}
-use Rattle.asking.specs.Questions.{patternKey, markKey, Asked, oneLine, ofPattern, entriesAsked, patternAsked, questionOf}
+use Rattle.text_entries.specs.Entries.{oneLine, entriesOf}
+use Rattle.asking.specs.Questions.{patternKey, markKey, Asked, ofPattern, entriesAsked, patternAsked, questionOf}
 use Rattle.asking.specs.Questions.{markField, ofMark, markOf, markedAsked, markAsked, wholePlan, wholeAsked}
 use Rattle.asking.specs.Answers.{markIn, QuestionIs}
 use Rattle.asking.specs.declared.Question.{Question}

@@ -1,52 +1,37 @@
--- What a line of entries is concluded to ask: by its newline, by its entries, and by the rank of the pattern that they are.
+-- What a line of entries is concluded to ask: by whether it is one line, by its entries, and by the rank of the pattern that they are.
 -- Assumes nothing.
 use mathlib.Core.Path.{_≡_, ap, _∙_}
 use mathlib.Core.Bool.{Bool, true, false, cond}
 use mathlib.Core.List.{List, _∷_}
-use mathlib.Core.Option.{none, some}
-use Prim.Native.Nat.{ℕ, suc, _+_, _≤_, _<_}
+use Prim.Native.Nat.{ℕ, _<_}
 use native.Mathlib.Omega.{arith}
 use lib.Dec.{leb}
 use lib.IntN.{ℤ, pos}
-use lib.ListN.{length, take, drop, replicate, length-drop}
+use lib.ListN.{length, take, replicate}
 use mir.Syntax.{w64}
 use mir.Val.{toZ, ofZ}
-use borrow.Author.Tests.{le-leb, lt-leb}
 use Rattle.listing.specs.Limits.{mostPorts, mostLegs}
-use Rattle.words.specs.Told.{Spot, accepted, refused, nowhere, then}
+use Rattle.words.specs.Told.{Told, Spot, accepted, refused, then}
 use Rattle.words.specs.Meaning.{outcomeTold}
-use Rattle.text_keys.specs.Parts.{newline, firstOf}
 use Rattle.words.specs.Signs.{signedLimit}
 use Rattle.words.proofs.WithSign.{stored}
 use Rattle.plan_rules.specs.Planned.{runOf}
 use Rattle.plan_rules.specs.Places.{placed}
 use Rattle.plan_rules.specs.declared.Plan.{Plan}
 use Rattle.patterns.specs.Calls.{rankOf}
-use Rattle.text_entries.specs.Entries.{entriesOf}
+use Rattle.text_entries.specs.Entries.{oneLine, entriesOf}
 use Rattle.text_entries.specs.Pieces.{EntriesIs}
 use Rattle.text_entries.proofs.Read.{given, given-long, given-front}
-use Rattle.asking.specs.Questions.{oneLine, patternLeg, ofPattern, entriesAsked, patternAsked}
+use Rattle.asking.specs.Questions.{patternLeg, ofPattern, entriesAsked, patternAsked}
 use Rattle.text_entries.specs.declared.Entries.{Entries}
 use Rattle.words.proofs.Told.{refused-on}
 
--- ---- the newline
+-- ---- the line
 
-module _ (t : List ℕ) where
-  -- there is none
-  pub no-line : none ≡ firstOf newline t → refused 11 nowhere ≡ patternAsked t
-  unfolding patternAsked oneLine
-  no-line e = rw (← e)
-
-  module _ (k : ℕ) (e : some k ≡ firstOf newline t) where
-    -- a byte comes after it
-    pub goes-on : k + 1 < length t → refused 11 nowhere ≡ patternAsked t
-    unfolding patternAsked oneLine
-    goes-on h = rw (← e, lt-leb (length (drop (suc k) t)) 0 (omega (arith, length-drop (suc k) t)))
-
-    -- none does: the entries before it decide
-    pub one-line : length t ≤ k + 1 → entriesAsked (take k t) ≡ patternAsked t
-    unfolding patternAsked oneLine
-    one-line h = rw (← e, le-leb (length (drop (suc k) t)) 0 (omega (arith, length-drop (suc k) t)))
+-- a text that is not one line is refused, and of one that is the entries decide
+pub line-asked : (t : List ℕ) (told : Told (List ℕ)) → told ≡ oneLine t → then told entriesAsked ≡ patternAsked t
+unfolding patternAsked
+line-asked t told e = ap (λ x. then x entriesAsked) e
 
 -- ---- the entries
 

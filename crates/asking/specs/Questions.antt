@@ -8,13 +8,13 @@ use lib.Dec.{leb, ltb}
 use lib.ListN.{length, drop}
 use Rattle.listing.specs.Limits.{mostPorts, largest64}
 use Rattle.promise.specs.Plan.{Leg, marks}
-use Rattle.words.specs.Told.{Told, accepted, refused, nowhere, then, need}
-use Rattle.text_keys.specs.Parts.{newline, Parts, cut, begins}
+use Rattle.words.specs.Told.{Told, accepted, refused, nowhere, then}
+use Rattle.text_keys.specs.Parts.{begins}
 use Rattle.patterns.specs.Calls.{rankOf}
 use Rattle.plan_lines.specs.Field.{Field, fieldIn, unsigned}
 use Rattle.plan_rules.specs.Planned.{Planned}
 use Rattle.plans.specs.Calls.{readPlanOf}
-use Rattle.text_entries.specs.Entries.{entriesOf}
+use Rattle.text_entries.specs.Entries.{oneLine, entriesOf}
 
 -- the keys, each with its `=`: `pattern=`, `mark=`
 abbrev pub patternKey : List ℕ
@@ -30,13 +30,6 @@ pub record Asked : Type 0 where
   pub mark : ℕ
 
 -- ---- a pattern
-
--- one line and nothing after it: 11 where there is no newline, or a byte after the first
-abbrev pub alone : Parts → Told (List ℕ)
-alone p = cond (leb (length (p .rest)) 0) (accepted (p .front)) (refused 11 nowhere)
-
-unfoldable pub oneLine : List ℕ → Told (List ℕ)
-oneLine t = then (need 11 nowhere (cut newline t)) alone
 
 -- the leg that starts at a pattern's rank and goes one step on; none for 2 ports, which have one pattern
 abbrev pub patternLeg : ℕ → ℕ → Leg

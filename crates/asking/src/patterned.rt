@@ -4,8 +4,8 @@ use crate::planned::refused;
 use patterns::ranking::rank;
 use plan_rules::Plan;
 use text_entries::entries_in;
+use text_entries::one_line;
 use text_keys::Found;
-use text_keys::find;
 use words::Numbered;
 use words::Outcome;
 use words::Reason;
@@ -72,13 +72,8 @@ fn ask_entries(t: &[u8]) -> Question
 pub fn ask_pattern(t: &[u8]) -> Question
     ensures { λ r. ⌜ QuestionIs (patternAsked (now (t .entry))) r ⌝ }
 {
-    match find(t, b'\n') {
+    match one_line(t) {
         Found::Nowhere => refused(nowhere(Reason::Ended)),
-        Found::At(k) => {
-            if k + 1 < t.len() {
-                return refused(nowhere(Reason::Ended));
-            }
-            ask_entries(&t[..k])
-        }
+        Found::At(k) => ask_entries(&t[..k]),
     }
 }

@@ -6,6 +6,7 @@ use words::Reason;
 use words::Refusal;
 use words::refusals::earlier_number;
 use words::refusals::place_number;
+use words::refusals::reason_number;
 ghost use mathlib.Core.Path.{_≡_};
 ghost use Prim.Native.Nat.{_+_, _≤_};
 ghost use lib.ListN.{length, take};
@@ -98,6 +99,15 @@ pub fn printed() {
 // The second number of a refusal, told to the command.
 pub fn tell_earlier(place: Place) {
     tell_number(b"earlier=", earlier_number(place) as u64);
+}
+
+// A refusal told to the command: its number, its place and its second number.
+pub fn tell_refusal(f: Refusal) {
+    let reason = f.reason;
+    let place = f.place;
+    tell_number(b"refused=", reason_number(reason) as u64);
+    tell_number(b"at=", place_number(place) as u64);
+    tell_earlier(place);
 }
 
 // A refusal's two lines, with its place, on standard output and as the outcome; whether they could be written.

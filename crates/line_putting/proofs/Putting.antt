@@ -40,6 +40,14 @@ puts-both at t u buf m mid after left h P Q = record {
   bytes = Q .bytes ∙ ap (λ x. put m u x) (P .bytes) ∙ ap (λ n. put n u (put at t buf)) (P .place) ∙ put-behind at t u buf h;
 }
 
+-- a text that is another
+pub puts-as : {at after : ℕ} {t u buf left : List ℕ} → t ≡ u → Puts at t buf after left → Puts at u buf after left
+puts-as {at = at} {after = after} {buf = buf} {left = left} e P = subst (λ x. Puts at x buf after left) e P
+
+-- and has the room of the other
+pub room-as : (at : ℕ) (buf : List ℕ) {t u : List ℕ} → t ≡ u → at + length u ≤ length buf → at + length t ≤ length buf
+room-as at buf e h = subst (λ x. at + length x ≤ length buf) (sym e) h
+
 -- no text
 puts-none : (at : ℕ) (buf : List ℕ) → Puts at [] buf at buf
 puts-none at buf = record { place = omega arith; bytes = sym (take-append-drop at buf) }
@@ -57,7 +65,7 @@ module _ (s : Spelled) (t : List ℕ) (S : Spells s t) (at : ℕ) (buf : List �
 
   -- and that it is put
   pub spelled-puts : (after : ℕ) (left : List ℕ) → Puts at (take (s .len) (s .bytes)) buf after left → Puts at t buf after left
-  spelled-puts after left P = subst (λ x. Puts at x buf after left) (S .front) P
+  spelled-puts after left P = puts-as (S .front) P
 
 -- ---- line after line
 
@@ -82,9 +90,18 @@ module _ (from : ℕ) (all old : List ℕ) (at : ℕ) (rest buf : List ℕ) (G :
         record {
           room = omega (arith, G .room, ap length e, length-append t more, P .place, same);
           long = same ∙ G .long;
-          comes = λ r d Q. G .comes r d (subst (λ x. Puts at x buf r d) (sym e) (puts-both at t more buf after left r d going-room P Q));
+          comes = λ r d Q. G .comes r d (puts-as (sym e) (puts-both at t more buf after left r d going-room P Q));
         }
 
   -- none is left
   pub going-over : rest ≡ [] → Puts from all old at buf
-  going-over e = G .comes at buf (subst (λ x. Puts at x buf at buf) (sym e) (puts-none at buf))
+  going-over e = G .comes at buf (puts-as (sym e) (puts-none at buf))
+
+-- the same of a rest that begins with the line
+pub next-room : {from at : ℕ} {all old buf : List ℕ} (t more : List ℕ) → Going from all old at (t ++ more) buf → at + length t ≤ length buf
+next-room {from = from} {at = at} {all = all} {old = old} {buf = buf} t more G = going-room from all old at (t ++ more) buf G t more refl
+
+pub next-put : {from at after : ℕ} {all old buf left : List ℕ} (t more : List ℕ) → Going from all old at (t ++ more) buf → Puts at t buf after left
+    → Going from all old after more left
+next-put {from = from} {at = at} {after = after} {all = all} {old = old} {buf = buf} {left = left} t more G P =
+    going-on from all old at (t ++ more) buf G t more refl after left P

@@ -36,6 +36,14 @@ unfolding levels
 levels-next forward m p byA e = rw e
 levels-next forward m p byB e = rw e
 
+-- the same of any number of ports from 3 on
+pub levels-down : (forward : Bool) (n : ℕ) (p : List ℕ) → 3 ≤ n
+    → levels forward n p ≡ levelOf forward n p ∷ levels (levelOf forward n p .forward) (shorter (letter n p) n) (back (letter n p) n p)
+levels-down forward zero p h = absurd (omega arith)
+levels-down forward (suc zero) p h = absurd (omega arith)
+levels-down forward (suc (suc zero)) p h = absurd (omega arith)
+levels-down forward (suc (suc (suc m))) p h = levels-next forward m p (letter (suc (suc (suc m))) p) refl
+
 -- the level of a pattern is what it says of the list
 level-shows : (forward : Bool) (m : ℕ) (p : List ℕ) → Derangement (suc (suc m)) p → Shows forward (suc (suc m)) p (levelOf forward (suc (suc m)) p)
 level-shows forward m p D =
@@ -114,13 +122,13 @@ module _ (forward : Bool) (m : ℕ) (p : List ℕ) (l : Level) (D : Derangement 
 -- ---- all levels
 
 -- what holds up to 2 ports, and from 3 on if it does for the shorter patterns, holds for all
-levels-first : (P : ℕ → Type 0) → ((n : ℕ) → n ≤ 2 → P n) → ((m : ℕ) → ((w : Letter) → P (shorter w (suc (suc (suc m))))) → P (suc (suc (suc m))))
+pub levels-first : (P : ℕ → Type 0) → ((n : ℕ) → n ≤ 2 → P n) → ((m : ℕ) → ((w : Letter) → P (shorter w (suc (suc (suc m))))) → P (suc (suc (suc m))))
     → (n : ℕ) → P n
 levels-first P few more =
     shorter-first P (few 0 (omega arith)) (few 1 (omega arith)) (λ m. elim m [ zero ↦ λ shorter-ones. few 2 (omega arith) | suc k ↦ λ shorter-ones. more k shorter-ones ])
 
 -- there are none up to 2 ports
-levels-none : (n : ℕ) (forward : Bool) (p : List ℕ) → n ≤ 2 → levels forward n p ≡ []
+pub levels-none : (n : ℕ) (forward : Bool) (p : List ℕ) → n ≤ 2 → levels forward n p ≡ []
 unfolding levels
 levels-none zero forward p h = refl
 levels-none (suc zero) forward p h = refl
@@ -188,12 +196,14 @@ only-shortest p D =
     sym (ap (λ ps. getD ps 0 []) listing-2) ∙ ap (at 2) none ∙ at-rank 2 p D
 
 -- a pattern of 3 ports or more comes from one of 2 or more
-two-below : (m : ℕ) (p : List ℕ) → Derangement (suc (suc (suc m))) p → 2 ≤ shorter (letter (suc (suc (suc m))) p) (suc (suc (suc m)))
-two-below m p D =
+pub two-below : (n : ℕ) (p : List ℕ) → 3 ≤ n → Derangement n p → 2 ≤ shorter (letter n p) n
+two-below zero p h D = absurd (omega arith)
+two-below (suc zero) p h D = absurd (omega arith)
+two-below (suc (suc zero)) p h D = absurd (omega arith)
+two-below (suc (suc (suc m))) p h D =
     let n = suc (suc (suc m)) in
     let some : (w : Letter) → shorter w n ≢ 0 = λ w. elim w [ byA ↦ λ e. suc-ne-zero (suc m) e | byB ↦ λ e. suc-ne-zero m e ] in
-    let made = letter-back (suc m) p D .0 in
-    two-ports (some (letter n p)) (rank-below (shorter (letter n p) n) (back (letter n p) n p) made)
+    two-ports (some (letter n p)) (rank-below (shorter (letter n p) n) (back (letter n p) n p) (letter-back (suc m) p D .0))
 
 pub levels-rebuild : (n : ℕ) (forward : Bool) (p : List ℕ) → 2 ≤ n → Derangement n p → rebuilt (levels forward n p) ≡ p
 unfolding rebuilt
@@ -205,7 +215,7 @@ levels-rebuild =
     let l = levelOf forward n p in
     let made = letter-back (suc m) p D in
     rw (levels-next forward m p (letter n p) refl)
-    (ap (step (letter n p) n (entry p n)) (shorter-ones (letter n p) (l .forward) (back (letter n p) n p) (two-below m p D) (made .0)) ∙ sym (made .1)))
+    (ap (step (letter n p) n (entry p n)) (shorter-ones (letter n p) (l .forward) (back (letter n p) n p) (two-below n p (omega arith) D) (made .0)) ∙ sym (made .1)))
 
 -- ---- how many there are
 

@@ -1,23 +1,23 @@
 -- A text by the first byte that parts it: what stands before it is the first piece, and what stands after it the others (`pieces-cut`). What the reader may
 -- conclude of an entry with none after it (`last-entry`) and of one with others (`more-entries`).
 -- Assumes nothing.
-use mathlib.Core.Path.{_≡_, refl, ap, _∙_}
+use mathlib.Core.Path.{_≡_, refl, sym, ap, _∙_}
 use mathlib.Core.Bool.{Bool, true, false, cond}
 use mathlib.Core.List.{List, [], _∷_, _++_}
-use mathlib.Core.Option.{Option, none, some, Option·map, bind}
-use Prim.Native.Nat.{ℕ, suc, _+_, _≤_, _<_}
+use mathlib.Core.Option.{Option, none, some, bind}
+use Prim.Native.Nat.{ℕ, suc, _+_, _<_}
 use native.Mathlib.Omega.{arith}
 use lib.Dec.{eqb}
-use lib.ListN.{length, take, drop}
+use lib.ListN.{length, take, drop, length-drop}
 use lib.Seq.{drop-drop}
 use Rattle.text_numbers.specs.Decimal.{numberUpTo}
 use Rattle.text_numbers.specs.Answers.{readIs}
 use Rattle.text_numbers.specs.declared.Read.{Read}
 use Rattle.text_numbers.specs.declared.Read.the-variants.{Number, Bad}
 use Rattle.text_keys.specs.Parts.{comma, later, firstOf, Parts, around, cut}
-use Rattle.text_keys.proofs.Cuts.{cut-joined}
-use Rattle.text_entries.specs.Entries.{onFirst, pieces, eachNumber, entriesIn}
-use Rattle.text_entries.specs.Pieces.{entryIs, EntryWithin, lastOf, moreOf}
+use Rattle.text_keys.proofs.Cuts.{cut-joined, first-inside}
+use Rattle.text_entries.specs.Entries.{onFirst, pieces, eachNumber, entriesIn, firstBad, badEntry}
+use Rattle.text_entries.specs.Pieces.{EntryOf, lastOf, moreOf}
 
 -- ---- the first byte that parts
 
@@ -52,35 +52,36 @@ module _ (s : ℕ) where
 
 -- ---- one entry
 
-module _ (most : ℕ) (s : List ℕ) where
+module _ (t : List ℕ) (at : ℕ) (k : ℕ) (e : some k ≡ firstOf comma (drop at t)) where
+  -- the comma after it stands inside the text
+  pub comma-inside : at + k < length t
+  comma-inside = omega (arith, first-inside comma (drop at t) k (sym e), length-drop at t)
+
+  -- and the others begin after that
+  others-after : pieces comma (drop at t) ≡ take k (drop at t) ∷ pieces comma (drop (at + k + 1) t)
+  others-after =
+      let next : at + suc k ≡ at + k + 1 = omega arith in
+      pieces-cut comma (drop at t) ∙ ap (λ o. parted comma (drop at t) (around (drop at t) o)) (sym e)
+      ∙ ap (λ r. take k (drop at t) ∷ pieces comma r) (drop-drop (suc k) at t ∙ ap (λ j. drop j t) next)
+
+module _ (most : ℕ) (t : List ℕ) (at : ℕ) where
   -- the last one
-  pub last-entry : (t : List ℕ) (r : Read) → none ≡ firstOf comma t → readIs r ≡ numberUpTo most t → entryIs most s (lastOf r) ≡ entriesIn most t
-  unfolding entriesIn eachNumber bind
-  last-entry t r e f = rw (pieces-cut comma t, ← e, ← f) (by r)
-    where
-      by : (r : Read) → entryIs most s (lastOf r) ≡ bind (readIs r) (λ n. Option·map (λ ns. n ∷ ns) (some []))
-      by (Number n) = refl
-      by Bad = refl
+  pub last-entry : (r : Read) → none ≡ firstOf comma (drop at t) → readIs r ≡ numberUpTo most (drop at t) → EntryOf most t at (lastOf r)
+  unfolding entriesIn eachNumber bind badEntry firstBad
+  last-entry (Number n) e f =
+      let p = one-piece comma (drop at t) (sym e) in
+      record { entries = rw (p, ← f); bad = rw (p, ← f); within = tt }
+  last-entry Bad e f =
+      let p = one-piece comma (drop at t) (sym e) in
+      record { entries = rw (p, ← f); bad = rw (p, ← f); within = tt }
 
   -- one with others after its comma
-  pub more-entries : (at k : ℕ) (r : Read) → some k ≡ firstOf comma (drop at s) → readIs r ≡ numberUpTo most (take k (drop at s))
-      → entryIs most s (moreOf (at + k + 1) r) ≡ entriesIn most (drop at s)
-  unfolding entriesIn eachNumber bind
-  more-entries at k r e f = rw (pieces-cut comma (drop at s), ← e, ← f, drop-drop (suc k) at s, ← next) (by r)
-    where
-      next : at + k + 1 ≡ at + suc k
-      next = omega arith
-
-      by : (r : Read) → entryIs most s (moreOf (at + k + 1) r)
-          ≡ bind (readIs r) (λ n. Option·map (λ ns. n ∷ ns) (eachNumber most (pieces comma (drop (at + k + 1) s))))
-      by (Number n) = refl
-      by Bad = refl
-
--- what has others after it has them at the place that it was given
-pub last-within : (at : ℕ) (t : List ℕ) (r : Read) → EntryWithin at t (lastOf r)
-last-within at t (Number n) = tt
-last-within at t Bad = tt
-
-pub more-within : (at : ℕ) (t : List ℕ) (next : ℕ) (r : Read) → at < next → next ≤ length t → EntryWithin at t (moreOf next r)
-more-within at t next (Number n) h l = (h, l)
-more-within at t next Bad h l = tt
+  pub more-entries : (k : ℕ) (r : Read) → some k ≡ firstOf comma (drop at t) → readIs r ≡ numberUpTo most (take k (drop at t))
+      → EntryOf most t at (moreOf (at + k + 1) r)
+  unfolding entriesIn eachNumber bind badEntry firstBad
+  more-entries k (Number n) e f =
+      let p = others-after t at k e in
+      record { entries = rw (p, ← f); bad = rw (p, ← f); within = (omega arith, omega (arith, comma-inside t at k e)) }
+  more-entries k Bad e f =
+      let p = others-after t at k e in
+      record { entries = rw (p, ← f); bad = rw (p, ← f); within = tt }

@@ -1,4 +1,5 @@
-// A pattern read from one text: its entries in order, with commas between them. Every entry is judged, however many there are.
+// A pattern read from one text: its entries in order, with commas between them. Every entry is judged, however many there are. Also the line that a text is,
+// and which entry is the first that is no number.
 use text_keys::Found;
 use text_keys::find;
 use text_numbers::Read;
@@ -10,12 +11,12 @@ use words::refusals::nowhere;
 ghost use mathlib.Core.Path.{_≡_};
 ghost use mathlib.Core.List.{List, [], _∷_, _++_};
 ghost use Prim.Native.Nat.{ℕ, _≤_};
-ghost use lib.ListN.{length, drop};
+ghost use lib.ListN.{length};
 ghost use Rattle.listing.specs.Limits.{largest64};
 ghost use Rattle.words.specs.Meaning.{numberOf};
 ghost use Rattle.words.specs.Told.{refused, nowhere};
-ghost use Rattle.text_entries.specs.Entries.{entriesIn, entryByte, fewEntries, entriesOf};
-ghost use Rattle.text_entries.specs.Pieces.{entryIs, EntryWithin, lastOf, moreOf, HeldIs, EntriesIs};
+ghost use Rattle.text_entries.specs.Entries.{oneLine, entryByte, fewEntries, entriesOf, badEntry};
+ghost use Rattle.text_entries.specs.Pieces.{lineIs, LineWithin, EntryOf, lastOf, moreOf, HeldIs, EntriesIs};
 
 // The largest entry that a byte holds.
 const MOST_ENTRY: u64 = 255;
@@ -41,6 +42,22 @@ pub enum Entry {
     Bad,
 }
 
+// The line that a text is, where it is one and nothing more: At(k) for its first k bytes, with the newline after them as the last byte.
+pub fn one_line(t: &[u8]) -> Found
+    ensures line { λ r. ⌜ lineIs (now (t .entry)) r ≡ oneLine (now (t .entry)) ⌝ }
+    ensures within { λ r. ⌜ LineWithin (now (t .entry)) r ⌝ }
+{
+    match find(t, b'\n') {
+        Found::Nowhere => Found::Nowhere,
+        Found::At(k) => {
+            if k + 1 < t.len() {
+                return Found::Nowhere;
+            }
+            Found::At(k)
+        }
+    }
+}
+
 // An entry with none after it.
 fn last(found: Read) -> Entry
     ensures { λ r. ⌜ r ≡ lastOf found ⌝ }
@@ -64,8 +81,7 @@ fn more(found: Read, next: usize) -> Entry
 // The entry that begins at a place of a text.
 fn entry_at(t: &[u8], at: usize) -> Entry
     requires { ⌜ at ≤ length (now t) ⌝ }
-    ensures is { λ r. ⌜ entryIs largest64 (now (t .entry)) r ≡ entriesIn largest64 (drop at (now (t .entry))) ⌝ }
-    ensures within { λ r. ⌜ EntryWithin at (now (t .entry)) r ⌝ }
+    ensures { λ r. ⌜ EntryOf largest64 (now (t .entry)) at r ⌝ }
 {
     match find(&t[at..], b',') {
         Found::Nowhere => last(read_number(&t[at..])),
@@ -153,6 +169,28 @@ pub fn entries_in(t: &[u8]) -> Entries
             }
             Entry::More(n, next) => {
                 held = and_entry(held, n);
+                at = next;
+            }
+        }
+    }
+}
+
+// Which entry of a text is the first that is no number, counted from 1; 0 where each is one.
+pub fn bad_entry(t: &[u8]) -> u64
+    ensures { λ r. ⌜ r ≡ badEntry largest64 (now (t .entry)) ⌝ }
+{
+    let mut passed: u64 = 0;
+    let mut at: usize = 0;
+    loop {
+        match entry_at(t, at) {
+            Entry::Bad => {
+                return passed + 1;
+            }
+            Entry::Last(_) => {
+                return 0;
+            }
+            Entry::More(_, next) => {
+                passed += 1;
                 at = next;
             }
         }

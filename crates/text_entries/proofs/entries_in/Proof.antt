@@ -25,7 +25,7 @@ returns c =
     let f = c .before .before .before in
     let R = f .before .loop .inv .1 in
     subst (λ told. EntriesIs told (c .refused .result))
-    (entry-bad _ _ _ R (sym (ap (entryIs largest64 _) (c .before .enum-told .given .1)) ∙ f .entry-at .ensures .0)) (c .refused .ensures)
+    (entry-bad _ _ _ R (sym (ap (entryIs largest64 _) (c .before .enum-told .given .1)) ∙ f .entry-at .ensures .entries)) (c .refused .ensures)
 
 returns-2 : tie.Need-returns-2 Inv-loop μ-loop
 returns-2 c =
@@ -33,19 +33,19 @@ returns-2 c =
     let f = n .before .before in
     let R = f .before .loop .inv .1 in
     subst (λ told. EntriesIs told (c .counted .result))
-    (entry-last _ _ _ R _ (sym (ap (entryIs largest64 _) (n .n .given .1)) ∙ f .entry-at .ensures .0))
+    (entry-last _ _ _ R _ (sym (ap (entryIs largest64 _) (n .n .given .1)) ∙ f .entry-at .ensures .entries))
     (c .counted .ensures _ (c .before .and-entry .ensures _ (R .held)))
 
 loop-less : tie.Need-loop-less Inv-loop μ-loop
-loop-less c = let h = subst (EntryWithin _ _) (c .before .before .n2 .given .1) (c .before .before .before .before .entry-at .ensures .1) in omega arith
+loop-less c = let h = subst (EntryWithin _ _) (c .before .before .n2 .given .1) (c .before .before .before .before .entry-at .ensures .within) in omega arith
 
 loop-again : tie.Need-loop-again Inv-loop μ-loop
 loop-again c =
     let n = c .before .before in
     let f = n .before .before in
     let R = f .before .loop .inv .1 in (
-      subst (EntryWithin _ _) (n .n2 .given .1) (f .entry-at .ensures .1) .1,
-      entry-more _ _ _ R _ _ _ (c .and-entry2 .ensures _ (R .held)) (sym (ap (entryIs largest64 _) (n .n2 .given .1)) ∙ f .entry-at .ensures .0),
+      subst (EntryWithin _ _) (n .n2 .given .1) (f .entry-at .ensures .within) .1,
+      entry-more _ _ _ R _ _ _ (c .and-entry2 .ensures _ (R .held)) (sym (ap (entryIs largest64 _) (n .n2 .given .1)) ∙ f .entry-at .ensures .entries),
     )
 
 pub entries-in-spec : {M : Type 1} → statement M

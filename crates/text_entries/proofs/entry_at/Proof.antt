@@ -4,15 +4,15 @@ use mathlib.Core.Path.{_≡_, sym, ap, subst, _∙_}
 use mathlib.Core.Option.{some}
 use Prim.Native.Nat.{_+_, _-_, _<_}
 use native.Mathlib.Omega.{arith}
-use lib.ListN.{length, drop, take, length-drop}
+use lib.ListN.{length, drop, take}
 use borrow.Author.Needs.{needs}
 use Rattle.listing.specs.Limits.{largest64}
 use Rattle.text_keys.specs.Parts.{comma, firstOf}
 use Rattle.text_keys.specs.Answers.{foundIs}
-use Rattle.text_keys.proofs.Cuts.{first-inside, to-the-end}
+use Rattle.text_keys.proofs.Cuts.{to-the-end}
 use Rattle.text_numbers.specs.Decimal.{numberUpTo}
-use Rattle.text_entries.specs.Pieces.{entryIs, EntryWithin}
-use Rattle.text_entries.proofs.Cutting.{last-entry, more-entries, last-within, more-within}
+use Rattle.text_entries.specs.Pieces.{EntryOf}
+use Rattle.text_entries.proofs.Cutting.{comma-inside, last-entry, more-entries}
 use Rattle.text_entries.proofs.entry_at.Statement.{statement}
 use Rattle.text_entries.proofs.entry_at.Tie as tie
 
@@ -25,9 +25,7 @@ at-comma c =
 
 -- so it stands inside the text
 inside : (c : tie.After-k) → let a = c .before .before .before .before .before .args in a .at + c .k .given .0 .0 < length (a .t .now)
-inside c =
-    let a = c .before .before .before .before .before .args in
-    omega (arith, first-inside comma _ _ (sym (at-comma c)), length-drop (a .at) (a .t .now))
+inside c = comma-inside _ _ _ (at-comma c)
 
 add-to : tie.Need-add-to
 add-to c = let h = inside (c .before) in search needs
@@ -43,13 +41,11 @@ returns c =
     let r = c .before in
     let f = r .before .before in
     let a = f .before .before .before .before .before .args in
-    let e = to-the-end (a .t .now) (a .at) in (
-      ap (entryIs largest64 _) (c .last .ensures)
-          ∙ last-entry largest64 (a .t .now) (drop (a .at) (a .t .now)) (r .read-number .result)
-          (sym (ap foundIs (f .enum-told .given .1)) ∙ f .before .before .find .ensures ∙ ap (firstOf comma) e)
-          (r .read-number .ensures ∙ ap (numberUpTo largest64) e),
-      subst (EntryWithin _ _) (sym (c .last .ensures)) (last-within (a .at) (a .t .now) (r .read-number .result)),
-    )
+    let e = to-the-end (a .t .now) (a .at) in
+    subst (EntryOf _ _ _) (sym (c .last .ensures))
+    (last-entry largest64 (a .t .now) (a .at) (r .read-number .result)
+    (sym (ap foundIs (f .enum-told .given .1)) ∙ f .before .before .find .ensures ∙ ap (firstOf comma) e)
+    (r .read-number .ensures ∙ ap (numberUpTo largest64) e))
 
 returns-2 : tie.Need-returns-2
 returns-2 c =
@@ -58,12 +54,9 @@ returns-2 c =
     let a = k .before .before .before .before .before .args in
     let n = k .k .given .0 .0 in
     let e : a .at + n - a .at ≡ n = omega arith in
-    let i = inside k in (
-      ap (entryIs largest64 _) (c .more .ensures)
-          ∙ more-entries largest64 (a .t .now) (a .at) n (r .read-number2 .result) (at-comma k)
-          (r .read-number2 .ensures ∙ ap (λ j. numberUpTo largest64 (take j (drop (a .at) (a .t .now)))) e),
-      subst (EntryWithin _ _) (sym (c .more .ensures)) (more-within (a .at) (a .t .now) (a .at + n + 1) (r .read-number2 .result) (omega arith) (omega arith)),
-    )
+    subst (EntryOf _ _ _) (sym (c .more .ensures))
+    (more-entries largest64 (a .t .now) (a .at) n (r .read-number2 .result) (at-comma k)
+    (r .read-number2 .ensures ∙ ap (λ j. numberUpTo largest64 (take j (drop (a .at) (a .t .now)))) e))
 
 pub entry-at-spec : {M : Type 1} → statement M
 entry-at-spec =

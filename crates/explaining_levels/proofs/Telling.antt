@@ -1,0 +1,123 @@
+-- What the loop over the levels keeps: of the text of a pattern, the lines of the levels that are left and the line of its rank are still to be put (`Telling`), from the
+-- first level on (`telling-first`), one level further (`telling-next`), and at the end (`rank-room`, `rank-put`).
+-- Assumes nothing.
+use mathlib.Core.Path.{_≡_, refl, sym, ap, subst, _∙_}
+use mathlib.Core.Bool.{Bool, true}
+use mathlib.Core.List.{List, [], _∷_, _++_, append-assoc}
+use Prim.Native.Nat.{ℕ, suc, _+_, _≤_, _<_}
+use native.Mathlib.Nat.{zero-add}
+use native.Mathlib.Omega.{arith}
+use mir.Syntax.{w64}
+use mir.Val.{Fits}
+use lib.ListN.{length, take}
+use lib.Seq.{length-take-le}
+use Rattle.listing.specs.Pattern.{Derangement}
+use Rattle.listing.specs.Steps.{letter}
+use Rattle.listing.specs.Rank.{rank}
+use Rattle.listing.specs.Limits.{mostPorts}
+use Rattle.listing.proofs.Limits.{count-most}
+use Rattle.listing.proofs.Ranks.{rank-below}
+use Rattle.listing_course.specs.InPlace.{WithInverse}
+use Rattle.listing_levels.specs.Levels.{levels, total}
+use Rattle.listing_levels.proofs.Levels.{levels-down, levels-none, levels-add-up, two-below}
+use Rattle.line_putting.specs.Putting.{Puts}
+use Rattle.line_putting.proofs.Putting.{Going, going-first, next-room, next-put, puts-as}
+use Rattle.pattern_ranks.specs.Levels.{levelIs, LevelOf}
+use Rattle.pattern_ranks.specs.declared.types.Level.{Level}
+use Rattle.explaining.specs.Text.{levelText, levelsText, rankText, whyText, mostExplained}
+use Rattle.explaining.proofs.Longest.{why-fits}
+
+-- the arrays have a pattern of n ports and its inverse; `sum` was passed over on the way to it from p, whose lines for the levels so far are put
+pub record Telling (p old a b : List ℕ) (n : ℕ) (forward : Bool) (sum at : ℕ) (buf : List ℕ) : Type 0 where
+  pub two : 2 ≤ n
+  pub most : n ≤ mostPorts
+  pub long : length a ≡ mostPorts
+  pub long-back : length b ≡ mostPorts
+  pub arrays : WithInverse n a b
+  pub below : rank (length p) p ≤ 895014631192902121
+  pub short : length (whyText p) ≤ mostExplained
+  pub adds : sum + total (levels forward n (take n a)) ≡ rank (length p) p
+  pub left : Going 0 (whyText p) old at (levelsText (levels forward n (take n a)) ++ rankText (rank (length p) p)) buf
+
+-- before the first level
+pub telling-first : (n : ℕ) (a b old : List ℕ) → 2 ≤ n → n ≤ mostPorts → length a ≡ mostPorts → length b ≡ mostPorts → WithInverse n a b
+    → mostExplained ≤ length old → Telling (take n a) old a b n true 0 0 old
+unfolding whyText
+telling-first n a b old two most la lb W room =
+    let p = take n a in
+    let e : length p ≡ n = length-take-le n a (omega arith) in
+    let D : Derangement (length p) p = subst (λ k. Derangement k p) (sym e) (W .pattern) in
+    record {
+      two = two;
+      most = most;
+      long = la;
+      long-back = lb;
+      arrays = W;
+      below = omega (arith, rank-below (length p) p D, count-most (length p) (omega arith));
+      short = why-fits p (omega arith) D;
+      adds = zero-add (total (levels true n p)) ∙ ap (λ k. total (levels true k p)) (sym e) ∙ levels-add-up (length p) true p D;
+      left =
+          subst (λ k. Going 0 (whyText p) old 0 (levelsText (levels true k p) ++ rankText (rank (length p) p)) old) e
+          (going-first 0 (whyText p) old (omega (arith, why-fits p (omega arith) D, room)));
+    }
+
+module _ (p old a b : List ℕ) (n : ℕ) (forward : Bool) (sum at : ℕ) (buf : List ℕ) (T : Telling p old a b n forward sum at buf) where
+  -- ---- a level more
+  module _ (l : Level) (c d : List ℕ) (three : 3 ≤ n) (L : LevelOf forward n (take n a) l c d) where
+    -- it is the first of those that are left
+    next : levels forward n (take n a) ≡ levelIs n l ∷ levels (l .forward) (l .ports) (take (l .ports) c)
+    next =
+        levels-down forward n (take n a) three
+        ∙ (λ k. sym (L .told) k ∷ levels (sym (L .told) k .forward) (sym (L .ports) k) (sym (L .shown) k))
+
+    -- so its line comes first
+    line : Going 0 (whyText p) old at (levelText (levelIs n l) ++ (levelsText (levels (l .forward) (l .ports) (take (l .ports) c)) ++ rankText (rank (length p) p))) buf
+    unfolding levelsText
+    line =
+        subst (λ x. Going 0 (whyText p) old at x buf)
+        (ap (λ ls. levelsText ls ++ rankText (rank (length p) p)) next ∙ append-assoc (levelText (levelIs n l)) _ (rankText (rank (length p) p)))
+        (T .left)
+
+    -- and what it passes over is added
+    added : sum + l .passed + total (levels (l .forward) (l .ports) (take (l .ports) c)) ≡ rank (length p) p
+    unfolding total
+    added = omega (arith, ap total next, T .adds)
+
+    pub level-room : at + length (levelText (levelIs n l)) ≤ length buf
+    level-room = next-room (levelText (levelIs n l)) _ line
+
+    pub sum-fits : Fits w64 (sum + l .passed)
+    sum-fits = omega (arith, added, T .below)
+
+    pub telling-next : (after : ℕ) (rest : List ℕ) → Puts at (levelText (levelIs n l)) buf after rest
+        → Telling p old c d (l .ports) (l .forward) (sum + l .passed) after rest
+    telling-next after rest P =
+        record {
+          two = rw (L .ports) (two-below n (take n a) three (T .arrays .pattern));
+          most = omega (arith, L .fewer, T .most);
+          long = L .long;
+          long-back = L .long-back;
+          arrays = L .arrays;
+          below = T .below;
+          short = T .short;
+          adds = added;
+          left = next-put (levelText (levelIs n l)) _ line P;
+        }
+
+  -- ---- none is left
+  module _ (few : n < 3) where
+    last : Going 0 (whyText p) old at (rankText (rank (length p) p)) buf
+    unfolding levelsText
+    last = subst (λ ls. Going 0 (whyText p) old at (levelsText ls ++ rankText (rank (length p) p)) buf) (levels-none n forward (take n a) (omega arith)) (T .left)
+
+    all-added : sum ≡ rank (length p) p
+    unfolding total
+    all-added = omega (arith, ap total (levels-none n forward (take n a) (omega arith)), T .adds)
+
+    pub rank-room : at + length (rankText sum) ≤ length buf
+    rank-room = rw all-added (last .room)
+
+    pub rank-put : (after : ℕ) (rest : List ℕ) → Puts at (rankText sum) buf after rest → Puts 0 (whyText p) old after rest × (after ≤ mostExplained)
+    rank-put after rest P =
+        let all = last .comes after rest (puts-as (ap rankText all-added) P) in
+        (all, omega (arith, all .place, T .short))

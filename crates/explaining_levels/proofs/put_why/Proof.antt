@@ -1,0 +1,71 @@
+-- `explaining_levels::put_why`: of the text, the lines of the levels that are left and the line of the rank are still to be put. The ports fall with each level.
+-- Assumes nothing.
+use native.Mathlib.Omega.{arith}
+use lib.ListN.{take}
+use borrow.Author.Needs.{needs}
+use Rattle.explaining_levels.proofs.Telling.{Telling, telling-first, level-room, sum-fits, telling-next, rank-room, rank-put}
+use Rattle.explaining_levels.proofs.put_why.Statement.{statement}
+use Rattle.explaining_levels.proofs.put_why.Tie as tie
+
+abbrev Inv-loop : tie.InvT-loop
+Inv-loop copy₀ inverse₀ ports buf₀ n₀ forward₀ rank₀ at₀ copy inverse buf n forward rank at =
+    Telling (take ports copy₀) buf₀ copy inverse n forward rank at buf
+
+abbrev μ-loop : tie.MeasureT-loop
+μ-loop copy₀ inverse₀ ports buf₀ n₀ forward₀ rank₀ at₀ copy inverse buf n forward rank at = n
+
+loop-holds : tie.Need-loop-holds Inv-loop μ-loop
+loop-holds c = let s = c .before in let h = s .pre in telling-first _ _ _ _ (h .2) (h .3) (h .0) (h .1) (h .4) (h .5)
+
+level-requires : tie.Need-level-requires Inv-loop μ-loop
+level-requires c κs = let T = c .before .before .before .loop .inv in (T .long, T .long-back, T .two, T .most, T .arrays)
+
+put-level-requires : tie.Need-put-level-requires Inv-loop μ-loop
+put-level-requires c κs =
+    let l = c .before in
+    let t = l .before .before .before in
+    level-room _ _ _ _ _ _ _ _ _ (t .before .loop .inv) _ _ _ (t .loop-test .taken) (l .level .ensures)
+
+add-rank : tie.Need-add-rank Inv-loop μ-loop
+add-rank c =
+    let l = c .before .before .before .before .before in
+    let t = l .before .before .before in
+    sum-fits _ _ _ _ _ _ _ _ _ (t .before .loop .inv) _ _ _ (t .loop-test .taken) (l .level .ensures)
+
+loop-less : tie.Need-loop-less Inv-loop μ-loop
+loop-less c = let l = c .before .before .before .before .before in l .level .ensures .fewer
+
+loop-again : tie.Need-loop-again Inv-loop μ-loop
+loop-again c =
+    let p = c .before .before .before in
+    let l = p .before .before in
+    let t = l .before .before .before in
+    telling-next _ _ _ _ _ _ _ _ _ (t .before .loop .inv) _ _ _ (t .loop-test .taken) (l .level .ensures) _ _ (p .put-level .ensures)
+
+put-rank-requires : tie.Need-put-rank-requires Inv-loop μ-loop
+put-rank-requires c κs = let t = c .before in rank-room _ _ _ _ _ _ _ _ _ (t .before .loop .inv) (t .loop-test .left)
+
+same-length : tie.Need-same-length Inv-loop μ-loop
+same-length c = let h = c .before .before .before .before .before .loop .inv .left .long in search needs
+
+returns : tie.Need-returns Inv-loop μ-loop
+returns c =
+    let r = c .before .before in
+    let t = r .before .before in
+    rank-put _ _ _ _ _ _ _ _ _ (t .before .loop .inv) (t .loop-test .left) _ _ (r .put-rank .ensures)
+
+pub put-why-spec : {M : Type 1} → statement M
+put-why-spec =
+    tie.close
+    (tie.spec
+    Inv-loop
+    μ-loop
+    loop-holds
+    level-requires
+    put-level-requires
+    add-rank
+    loop-less
+    loop-again
+    put-rank-requires
+    same-length
+    returns)
