@@ -1,6 +1,6 @@
 # A refusal in words, for people: `number`, `place` and `earlier`, the second number, as the program told them; what was read on standard input, `bytes` long.
 # `asked` is what was asked for: a plan; a mark of a plan, whose line stands before the plan's own; a rank, which stands in the plan of one leg that starts
-# there; a pattern; or a line of those that are translated, whose first 58 bytes alone are read here, less those that are 0: `place` is then its number, `jack` the
+# there; a pattern; the entries of a pattern alone, whose words are printed already; or a line of those that are translated, whose first 58 bytes alone are read here, less those that are 0: `place` is then its number, `jack` the
 # jack at fault, and `held` the ports that hold there, 0 for none. Each line begins with the command's `name`. The first says what is wrong and where, those after
 # it what often makes it so.
 
@@ -9,7 +9,8 @@
 END {
     first = asked == "mark" || asked == "rank"
     here = asked == "line" ? line[1] : line[place + first]
-    if (asked == "pattern") tell(pattern_words(place))
+    if (asked == "entries") entry_hints()
+    else if (asked == "pattern") tell(pattern_words(place))
     else if (asked == "rank") tell(rank_words())
     else if (asked == "line") {
         tell("line " place ": " line_words())
@@ -126,9 +127,13 @@ function long_words() { return "the line is longer than any good one, which has 
 
 # ---- what often makes it so: of a text by its front, with its own words for what it is, where blanks stand, and a minus
 
-function hints(front, it, blanks, minus, no_end) {
+function front_hints(front) {
     if (front ~ /^\357\273\277/) hint("the file begins with a byte order mark; save it without one")
     else if (front ~ /^(\377\376|\376\377)/) hint("the file is in UTF-16; save it as plain text")
+}
+
+function hints(front, it, blanks, minus, no_end) {
+    front_hints(front)
     if (here ~ /\r$/) hint("the lines end in carriage returns; save the file with plain newlines")
     else if (here ~ /^[ \t]*(#|;|\/\/)/) hint("line " place " is a comment, and " it " has none")
     else if ((asked == "line" || place + first <= NR) && here ~ /^[ \t]*$/) hint("line " place " is blank, and " it " has no blank lines")
@@ -137,4 +142,17 @@ function hints(front, it, blanks, minus, no_end) {
     else if (number == 8 && here ~ /[=,]\+/) hint("no plus before a number")
     else if (number == 8 && here ~ /[=,]-/) hint(minus)
     if (no_end) hint("end the last line with a newline, as the others")
+}
+
+# of the entries of a pattern, alone on their line
+function entry_hints(  text) {
+    text = "," line[1]
+    front_hints(line[1])
+    if (text ~ /\r$/) hint("the line ends in a carriage return; save the file with plain newlines")
+    else if (text ~ /[ \t]/) hint("no blanks before or after an entry")
+    else if (text ~ /^,pattern=/) hint("the entries alone, without pattern=")
+    else if (number == 8 && text ~ /,0[0-9]/) hint("no leading zero")
+    else if (number == 8 && text ~ /,[+-]/) hint("no sign before an entry")
+    if (number == 11 && whole > bytes) hint("end the line with a newline")
+    else if (number == 11 && NR > 1) hint("one pattern at a time: nothing comes after the first line")
 }
