@@ -4,4 +4,5 @@ pub mod Back
 pub mod Bad
 pub mod Places
 pub mod Read
+pub mod Patterns
 pub mod Contracts

@@ -28,14 +28,13 @@ use Rattle.text_keys.specs.Parts.{begins}
 use Rattle.text_keys.proofs.Keys.{key-after}
 use Rattle.text_entries.specs.Entries.{entriesText, entriesIn, entryByte}
 use Rattle.text_entries.proofs.Back.{entries-text}
-use Rattle.text_entries.proofs.Places.{small-entry, large-entry}
+use Rattle.text_entries.proofs.Patterns.{pattern-ports, bytes-back}
 use Rattle.pattern_check.specs.Calls.{inSize, sized}
 use Rattle.pattern_check.proofs.Calls.{size-within}
 use Rattle.translating.specs.Names.{Named, byRank, byNumber, byPattern, rankKey, numberKey, patternKey, namesText, mostNames}
 use Rattle.translating.specs.Lines.{portsKey, mostLine, numbered, namedOf, Went, SoFar, portsOf, keyedOf, lineOf}
 use Rattle.translating.proofs.Names.{Names, rank-names, number-names, pattern-names}
 use Rattle.translating.proofs.Longest.{entries-50, entries-full, names-109}
-use Rattle.translating.proofs.Lines.{EachPort, pattern-ports}
 
 -- ---- parts of a line
 
@@ -51,14 +50,6 @@ module _ {A : Type 0} (key t : List ℕ) (b : begins key t ≡ true) (on : ℕ �
       let x = then-accepted (need 8 nowhere (numberUpTo largest64 rest)) on a e in
       let is = digits-up-to largest64 rest (x .first) (need-accepted 8 nowhere (numberUpTo largest64 rest) (x .first) (x .taken)) .0 in
       (x .first, key-and key t b ∙ ap (λ v. key ++ v) is, x .on)
-
--- entries that are ports as bytes are those bytes
-held : (n : ℕ) (ns : List ℕ) → EachPort n (map entryByte ns) → map entryByte ns ≡ ns
-held n [] e = refl
-held n (y ∷ ns) e =
-    either (below? 255 y)
-    (λ h. absurd (omega (arith, large-entry y h, e .0)))
-    (λ h. λ i. sym (small-entry y h) i ∷ held n ns (e .2) i)
 
 -- ---- the four good lines
 
@@ -94,7 +85,7 @@ asked n t x e = by (begins rankKey t) refl (begins numberKey t) refl (begins pat
         let ns = y .first in
         let z = pattern-names n (map entryByte ns) x (y .on) in
         let is = entries-text largest64 entries ns (need-accepted 8 nowhere (entriesIn largest64 entries) ns (y .taken)) .0 in
-        let same = held n ns (pattern-ports n (map entryByte ns) (z .0)) in
+        let same = bytes-back n ns (pattern-ports n (map entryByte ns) (z .0)) in
         (pattern (map entryByte ns) (z .0) (key-and patternKey t s ∙ ap (λ v. patternKey ++ v) (is ∙ ap entriesText (sym same))), z .1)
     by false q false r false s e = absurd (not-both e)
 

@@ -26,36 +26,12 @@ use Rattle.text_numbers.proofs.Lengths.{digits-at-most}
 use Rattle.text_numbers.proofs.Limits.{number-up-to}
 use Rattle.text_keys.specs.Parts.{begins}
 use Rattle.text_entries.specs.Entries.{entriesText, entriesIn, entryByte}
-use Rattle.text_entries.proofs.Back.{EachUpTo, entries-back}
-use Rattle.text_entries.proofs.Places.{small-entry}
+use Rattle.text_entries.proofs.Back.{entries-back}
+use Rattle.text_entries.proofs.Patterns.{pattern-ports, ports-bytes, ports-few}
 use Rattle.translating.specs.Names.{Named, names, byRank, byNumber, byPattern, rankKey, numberKey, patternKey, namesText}
 use Rattle.translating.specs.Lines.{portsKey, mostLine, namedOf, keyedOf, lineOf}
 use Rattle.translating.proofs.Names.{rank-said, number-said, pattern-said, by-its-rank, by-its-number}
 use Rattle.translating.proofs.Longest.{entries-50}
-
--- ---- a pattern's entries as bytes
-
--- each entry is one of 1..n
-abbrev pub EachPort : ℕ → List ℕ → Type 0
-EachPort n [] = Unit {0}
-EachPort n (x ∷ p) = (1 ≤ x) × (x ≤ n) × EachPort n p
-
-each-port : (n : ℕ) (p : List ℕ) → ((j : ℕ) → j < length p → (1 ≤ getD p j 0) × (getD p j 0 ≤ n)) → EachPort n p
-each-port n [] h = tt
-each-port n (x ∷ p) h = let c = h 0 (omega arith) in (c .0, c .1, each-port n p (λ j l. h (suc j) (omega arith)))
-
-pub pattern-ports : (n : ℕ) (p : List ℕ) → Derangement n p → EachPort n p
-pattern-ports n p D =
-    each-port n p (λ j l. let a = D .permutation .ports (suc j) (omega (arith, D .permutation .long)) in (omega arith, omega arith))
-
--- so each is a byte and a number of 64 bits
-ports-bytes : (n : ℕ) (p : List ℕ) → n ≤ 255 → EachPort n p → map entryByte p ≡ p
-ports-bytes n [] h e = refl
-ports-bytes n (x ∷ p) h e = λ i. sym (small-entry x (omega (arith, e .1))) i ∷ ports-bytes n p h (e .2) i
-
-ports-few : (n : ℕ) (p : List ℕ) → n ≤ largest64 → EachPort n p → EachUpTo largest64 p
-ports-few n [] h e = tt
-ports-few n (x ∷ p) h e = (omega (arith, e .1), ports-few n p h (e .2))
 
 -- ---- before any ports
 

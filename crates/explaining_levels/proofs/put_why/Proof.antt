@@ -24,13 +24,13 @@ put-level-requires : tie.Need-put-level-requires Inv-loop μ-loop
 put-level-requires c κs =
     let l = c .before in
     let t = l .before .before .before in
-    level-room _ _ _ _ _ _ _ _ _ (t .before .loop .inv) _ _ _ (t .loop-test .taken) (l .level .ensures)
+    level-room _ _ _ _ _ _ _ _ _ (t .before .loop .inv) _ _ _ (omega (arith, t .loop-test .taken)) (l .level .ensures)
 
 add-rank : tie.Need-add-rank Inv-loop μ-loop
 add-rank c =
     let l = c .before .before .before .before .before in
     let t = l .before .before .before in
-    sum-fits _ _ _ _ _ _ _ _ _ (t .before .loop .inv) _ _ _ (t .loop-test .taken) (l .level .ensures)
+    sum-fits _ _ _ _ _ _ _ _ _ (t .before .loop .inv) _ _ _ (omega (arith, t .loop-test .taken)) (l .level .ensures)
 
 loop-less : tie.Need-loop-less Inv-loop μ-loop
 loop-less c = let l = c .before .before .before .before .before in l .level .ensures .fewer
@@ -40,10 +40,10 @@ loop-again c =
     let p = c .before .before .before in
     let l = p .before .before in
     let t = l .before .before .before in
-    telling-next _ _ _ _ _ _ _ _ _ (t .before .loop .inv) _ _ _ (t .loop-test .taken) (l .level .ensures) _ _ (p .put-level .ensures)
+    telling-next _ _ _ _ _ _ _ _ _ (t .before .loop .inv) _ _ _ (omega (arith, t .loop-test .taken)) (l .level .ensures) _ _ (p .put-level .ensures)
 
 put-rank-requires : tie.Need-put-rank-requires Inv-loop μ-loop
-put-rank-requires c κs = let t = c .before in rank-room _ _ _ _ _ _ _ _ _ (t .before .loop .inv) (t .loop-test .left)
+put-rank-requires c κs = let t = c .before in rank-room _ _ _ _ _ _ _ _ _ (t .before .loop .inv) (omega (arith, t .loop-test .left))
 
 same-length : tie.Need-same-length Inv-loop μ-loop
 same-length c = let h = c .before .before .before .before .before .loop .inv .left .long in search needs
@@ -52,7 +52,7 @@ returns : tie.Need-returns Inv-loop μ-loop
 returns c =
     let r = c .before .before in
     let t = r .before .before in
-    rank-put _ _ _ _ _ _ _ _ _ (t .before .loop .inv) (t .loop-test .left) _ _ (r .put-rank .ensures)
+    rank-put _ _ _ _ _ _ _ _ _ (t .before .loop .inv) (omega (arith, t .loop-test .left)) _ _ (r .put-rank .ensures)
 
 pub put-why-spec : {M : Type 1} → statement M
 put-why-spec =
