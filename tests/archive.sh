@@ -10,6 +10,7 @@ archive_begin() {
     rm -f "$archive"
     for command in orders show named; do bin/$command --quiet plans/two-ports >/dev/null || fail "archive: bin/$command does not run"; done
     bin/translate --quiet examples/lab/numbers >/dev/null || fail 'archive: bin/translate does not run'
+    echo 2,1 | bin/explain --quiet >/dev/null || fail 'archive: bin/explain does not run'
     tools/host-archive >target/archive.log 2>&1 &
     archive_maker=$!
 }

@@ -5,6 +5,7 @@ T=$commands_out
 # all programs up to date, so that no row tells of a build
 for command in orders show named; do bin/$command --quiet plans/two-ports >/dev/null || fail "commands: bin/$command does not run"; done
 bin/translate --quiet examples/lab/numbers >/dev/null || fail 'commands: bin/translate does not run'
+echo 2,1 | bin/explain --quiet >/dev/null || fail 'commands: bin/explain does not run'
 
 # the files of the table
 commands_file() { printf "$2" >"$T/$1"; }
@@ -79,6 +80,21 @@ commands_file lines-ports-alone 'ports=5\n'
 cp examples/lab/numbers "$T/-numbers"
 cp examples/lab/numbers "$T/some numbers"
 ln -s "$root/bin/translate" "$T/link-translate"
+# patterns to explain, alone on their line
+commands_file pattern '5,4,2,3,1\n'
+commands_file pattern-twice '5,4,2,3,4\n'
+commands_file pattern-returns '5,4,2,3,1\r\n'
+commands_file pattern-order-mark '\357\273\2775,4,2,3,1\n'
+commands_file pattern-blanks '5, 4, 2, 3, 1\n'
+commands_file pattern-key 'pattern=5,4,2,3,1\n'
+commands_file pattern-zero '05,4,2,3,1\n'
+commands_file pattern-minus '5,4,2,3,-1\n'
+commands_file pattern-unended '5,4,2,3,1'
+commands_file pattern-and-more '5,4,2,3,1\n2,1\n'
+commands_file pattern-own '5,4,3,2,1\n'
+cp "$T/pattern" "$T/-pattern"
+cp "$T/pattern" "$T/a pattern"
+ln -s "$root/bin/explain" "$T/link-explain"
 
 # a reader that goes away after the first line; one that is gone before anything comes; SIGPIPE ignored; a print that is stopped; standard error a terminal; the
 # last two lines in one
@@ -122,15 +138,15 @@ while IFS= read -r row; do
 done <tests/commands/table
 
 # every status that the commands' file names is met by a row for each command, but the one for what cannot be built (building.sh)
-for command in orders show named translate; do
+for command in orders show named translate explain; do
     for status in 0 64 65 66 74 141; do
         grep -qE "^$status \|.*bin/$command" tests/commands/table || fail "commands: no row of $command ends with $status"
     done
 done
 
-# the planners' page and the labs' have the statuses that commands/way.sh gives, and no other
+# the planners' page, the labs' and the one for new colleagues have the statuses that commands/way.sh gives, and no other
 commands_given=$(sed -n 's/^[a-z_]*=\([0-9][0-9]*\) *#.*/\1/p' commands/way.sh | sort -n | tr '\n' ' ')
-for page in docs/PLANS.md docs/NUMBERS.md; do
+for page in docs/PLANS.md docs/NUMBERS.md docs/RANKS.md; do
     commands_page=$(sed -n '/^| status /,/^$/s/^| \([0-9]*\) | .*/\1/p' "$page" | sort -n | tr '\n' ' ')
     if [ "$commands_page" = "$commands_given" ] && [ "$commands_given" = '0 1 64 65 66 74 141 ' ]; then
         pass "commands: $page has the statuses that are given"
@@ -197,6 +213,8 @@ done <<PRINTS
 orders plans/overlap-6
 named plans/overlap-6
 translate $T/lines-port-twice
+explain $T/pattern
+explain $T/pattern-twice
 PRINTS
 # a signal to the command alone ends the program too: orders that are printed, lines that are waited for
 
@@ -251,6 +269,8 @@ TMPDIR=$T/room bin/orders --bad 2>/dev/null
 TMPDIR=$T/room bin/named --words plans/example >/dev/null 2>&1
 TMPDIR=$T/room no_reader bin/named plans/example
 TMPDIR=$T/room bin/translate --words "$T/lines-own-port" >/dev/null 2>&1
+TMPDIR=$T/room bin/explain --words "$T/pattern" >/dev/null 2>&1
+TMPDIR=$T/room no_reader bin/explain "$T/pattern"
 { echo ports=5 && yes rank=9; } | TMPDIR=$T/room no_reader bin/translate
 { sleep 0.5 && TMPDIR=$T/room bin/translate "$T/none"; } 2>&1 | true
 if [ -z "$(ls "$T/room")" ]; then pass 'commands: no temporary file is left'; else fail 'commands: temporary files are left'; fi

@@ -17,7 +17,7 @@ fi
 
 # a room is the part of the name before its first _; the programs' room has names of its own. Each crate stands in a room, and knows its own
 # room and those before it
-rooms='listing promise words text pattern:patterns dictionary panel line plan:plans campaign printing:console:asking:showing:naming:translating:orders:show:named:translate:cases face demands'
+rooms='listing promise words text pattern:patterns dictionary panel line plan:plans campaign printing:console:asking:showing:naming:translating:explaining:orders:show:named:translate:explain:cases face demands'
 homeless=$(for name in $listed; do echo " $rooms " | grep -qE "[ :]${name%%_*}[ :]" || echo "$name"; done)
 if [ -z "$homeless" ]; then
     pass "every crate begins with its room"

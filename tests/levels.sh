@@ -171,6 +171,67 @@ levels_command() {
     fi
 }
 
+# ---- the page for new colleagues: its examples, the beginning of the list for 5 ports, how many patterns there are, its refusals
+
+# page_shows FILE: the page has the lines of a file, one after the other, as it has examples
+page_shows() {
+    [ -s "$1" ] || return 1
+    awk 'NR == FNR { want = want "    " $0 "\n"; next } { page = page $0 "\n" } END { exit !index("\n" page, "\n" want) }' "$1" "$root/docs/RANKS.md"
+}
+levels_page() {
+    echo 5,4,2,3,1 | bin/explain --words >printed 2>said
+    echo 7,8,4,6,1,3,5,2 | bin/explain >longer
+    if page_shows printed && page_shows said && page_shows longer; then
+        pass 'levels: docs/RANKS.md shows what is printed of 5,4,2,3,1 and of 7,8,4,6,1,3,5,2, and what is said of the first'
+    else
+        fail 'levels: docs/RANKS.md shows something else than is printed of its patterns, or said'
+    fi
+    # what the page has on each row, as the command prints and says it of that pattern
+    sed -n 's/^| \([0-9]*\) | \([0-9,]*\) | \([AB]\)(\([0-9]\)) | \([0-9,]*\) |$/\1 \2 \3 \4 \5/p' "$root/docs/RANKS.md" >rows
+    while read -r rank pattern by last from; do
+        echo "$pattern" | bin/explain --words >printed 2>said
+        head -n 1 printed | grep -q "^level=5 last=$last by=$by " && grep -qx "rank=$rank" printed && head -n 1 said | grep -q " so it came by $by from $from\$" ||
+            echo "$rank"
+    done <rows >different
+    if [ "$(wc -l <rows)" -eq 11 ] && [ ! -s different ]; then
+        pass 'levels: docs/RANKS.md has the first block of the list for 5 ports, each pattern with its rank, its step and where it came from'
+    else
+        fail "levels: docs/RANKS.md has other patterns in the first block of 5 ports: $(echo $(cat different))"
+    fi
+    # its numbers by the count's rule: n - 1 times the sum of the two before
+    awk 'BEGIN {
+        one = 0; two = 1
+        for (n = 2; n <= 8; n++) {
+            many = many " | " (n - 1) * (one + two)
+            block = block " |" (n > 2 ? " " one + two : "")
+            parts = parts " |" (n > 2 ? " " one ", " two : "")
+            three = one; one = (n - 1) * (one + two); two = three
+        }
+        print "| patterns in the list" many " |"
+        print "| in a block" block " |"
+        print "| of them by A, by B" parts " |"
+    }' >counts
+    if [ "$(grep -cxFf counts "$root/docs/RANKS.md")" -eq 3 ]; then
+        pass 'levels: docs/RANKS.md has how many patterns there are, in a list and in a block'
+    else
+        cat counts
+        fail 'levels: docs/RANKS.md has other numbers of patterns'
+    fi
+    # the refusals: a line that meets each, and its row
+    for sample in '2,1,x' 1 '2,9,1,3,4' '2,3,2' '2,1,3'; do echo "$sample" | bin/explain | paste -sd '|'; done >refused
+    printf 2,1 | bin/explain | paste -sd '|' >>refused
+    sort -o refused refused
+    sed -n '/^## When a line is refused/,/^## /s/^| \([0-9]*\) | .* | `\(.*\)` |$/\1|\2/p' "$root/docs/RANKS.md" | sort >rows
+    if [ "$(wc -l <rows)" -eq 6 ] && sed 's/^refused=\([0-9]*\)|at=[0-9]*|/\1|/' refused | sort | cmp - rows; then
+        pass 'levels: docs/RANKS.md has each refusal with the words that are printed'
+    else
+        cat refused
+        fail 'levels: docs/RANKS.md has other refusals, or other words'
+    fi
+    echo 2,3,2 | bin/explain >printed
+    page_shows printed && pass 'levels: docs/RANKS.md shows what is printed of 2,3,2' || fail 'levels: docs/RANKS.md shows something else of 2,3,2'
+}
+
 if ! echo 2,1 | bin/explain --quiet >/dev/null; then
     fail 'levels: bin/explain does not run'
 elif reference_library && reference_over 'the inputs to explain' -o "$levels_out/maker" tests/levels/texts.rs && "$levels_out/maker" "$levels_out"; then
@@ -179,6 +240,7 @@ elif reference_library && reference_over 'the inputs to explain' -o "$levels_out
     levels_groups
     levels_rebuilt
     levels_command
+    levels_page
     cd "$root" || exit 1
 else
     fail 'levels: the inputs are not made'
