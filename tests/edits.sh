@@ -9,7 +9,36 @@
 # where an edit is refused there the proof gives it one.
 
 # how many edits there are at least: it only grows
-edits_at_least=314
+edits_at_least=336
+
+# what reads an edit, line by line, as rt does: one or more replacements, of which each is of what the ones before it left
+edits_awk='
+    function text_of(name,    line, all, is) {
+        while ((is = (getline line < name)) > 0) all = all line "\n"
+        close(name)
+        if (is < 0) absent[name] = 1
+        return all
+    }
+    # taken(FOLDER): takes the line of an edit of the crate in the folder; text[NAME] is what the file has then. Gives what is wrong, or nothing
+    function taken(folder,    name, new, at, rest, was) {
+        if ($0 ~ /^file: /) file = substr($0, 7)
+        if ($0 ~ /^old: /) old = substr($0, 6)
+        if ($0 !~ /^new:/) return ""
+        pairs++
+        new = substr($0, 5); sub(/^ /, "", new)
+        was = old; old = ""
+        name = folder "/" file
+        if (file !~ /^(src|specs|proofs)\/./ || "/" file "/" ~ /\/\.\.\//) return "it names a file that is not below src/, specs/ or proofs/"
+        if (!(name in stands)) stands[name] = text_of(name)
+        if (name in absent) return "there is no " file
+        if (!(name in text)) text[name] = stands[name]
+        at = index(text[name], was)
+        rest = substr(text[name], at + length(was))
+        if (was == "" || !at) return "an old text is not in " file
+        if (index(rest, was)) return "an old text is in " file " more than once"
+        text[name] = substr(text[name], 1, at - 1) new rest
+        return ""
+    }'
 
 # edits_there ROOT: a line for each edit that has no line `# refused at:`, or more than one, or whose old texts do not stand once each in their files, one after the
 # other as rt replaces them; and one line if there are too few edits
@@ -18,13 +47,8 @@ edits_there() {
         cd "$1/crates" || exit 1
         set -- */must-fail/*.edit
         [ -f "$1" ] || { echo 'there are no edits'; exit 1; }
-        awk -v least="$edits_at_least" '
-            function text_of(name,    line, all) {
-                while ((getline line < name) > 0) all = all line "\n"
-                close(name)
-                return all
-            }
-            function wrong(why) { if (!said) print one ": " why; said = 1 }
+        awk -v least="$edits_at_least" "$edits_awk"'
+            function wrong(why) { if (why != "" && !said) { print one ": " why; said = 1 } }
             # the edit that was read last
             function judged() {
                 if (one == "") return
@@ -39,23 +63,7 @@ edits_there() {
                 split("", text); file = old = ""; told = pairs = said = 0
             }
             /^# refused at: [^ ]/ { told++ }
-            /^file: / {
-                file = substr($0, 7)
-                name = crate "/" file
-                if (!(name in stands)) stands[name] = text_of(name)
-                if (!(file in text)) text[file] = stands[name]
-            }
-            /^old: / { old = substr($0, 6) }
-            /^new:/ {
-                pairs++
-                new = substr($0, 5); sub(/^ /, "", new)
-                at = index(text[file], old)
-                rest = substr(text[file], at + length(old))
-                if (old == "" || !at) wrong("an old text is not in " file)
-                else if (index(rest, old)) wrong("an old text is in " file " more than once")
-                else text[file] = substr(text[file], 1, at - 1) new rest
-                old = ""
-            }
+            { wrong(taken(crate)) }
             END {
                 judged()
                 if (number != ARGC - 1) print "an edit has no line"

@@ -1,6 +1,7 @@
 # The gate's own tests: a copy of the tree with one thing wrong must fail, for that reason, and say so in its last line. A copy runs the parts that are looked
-# at before any proof, and no copy makes copies, so each takes a moment whatever is wrong. What the prover says of wrong edits is tried in refusals.sh.
+# at before any proof, and no copy makes copies, so each takes a moment whatever is wrong. How the proofs and the edits are judged is tried on a small tree.
 type edits_there >/dev/null 2>&1 || . "$root/tests/edits.sh"
+type edits_tried >/dev/null 2>&1 || . "$root/tests/tried.sh"
 gate_copies=$(mktemp -d)
 trap 'rm -rf "$gate_copies"' EXIT
 
@@ -113,6 +114,87 @@ must_fail edit-removed "edits, and there were $edits_at_least"
 changed edit-without-its-line crates/listing/must-fail/modulo_toward_zero.edit '/^# refused at:/d' 'listing/modulo_toward_zero: 0 lines `# refused at:`'
 changed edit-of-a-text-that-is-gone crates/listing/specs/Around.antt 's/^modulo (negsuc k)/modulo (negsuc  k)/' \
     'listing/modulo_toward_zero: an old text is not in specs/Around.antt'
+
+# ---- the proofs and the edits, on a tree of a library of one function, and at last a program that prints nothing: there the part proofs takes seconds
+small=$gate_copies/small
+mkdir -p "$small/tests" "$small/crates/seven/src" "$small/crates/seven/must-fail"
+cp test "$small/"
+cp tests/proofs.sh tests/tried.sh "$small/tests/"
+sed 's/^edits_at_least=.*/edits_at_least=1/' tests/edits.sh >"$small/tests/edits.sh"
+echo 'seven:' >"$small/crates.txt"
+cat >"$small/crates/seven/src/lib.rt" <<'END'
+// The answer is 7.
+ghost use mathlib.Core.Path.{_≡_};
+
+pub fn seven() -> usize
+    ensures { λ r. ⌜ r ≡ 7 ⌝ }
+{
+    7
+}
+END
+
+# small_edit LABEL LAW OLD NEW: an edit of the small library
+small_edit() { printf '# refused at: %s\nfile: src/lib.rt\nold: %s\nnew: %s\n' "$2" "$3" "$4" >"$small/crates/seven/must-fail/$1.edit"; }
+
+# small_fails LABEL COUNT WORDS..: the part proofs of the small tree says each of the words, and its last line is the count
+small_fails() {
+    small_label=$1 small_count=$2
+    out=$(cd / && EDITS='' "$small/test" proofs 2>&1)
+    if [ "$(echo "$out" | tail -n 1)" != "$small_count" ]; then
+        echo "$out" | tail -n 12
+        fail "gate: $small_label: the proofs of the small tree do not end in '$small_count'"
+        return
+    fi
+    shift 2
+    for words; do
+        echo "$out" | grep -qF -- "$words" || { fail "gate: $small_label: it is not said: $words"; return; }
+    done
+    pass "gate: $small_label"
+}
+
+small_edit is_refused 'seven returns' '    7' '    8'
+small_fails 'the proofs of a small tree with nothing wrong pass' '3 passed, 0 failed' 'edits: 1 refused, 0 not:'
+
+# beside the edit that is refused: one that changes a comment, one that the compiler refuses, one that is refused elsewhere than it says
+small_edit is_survivor 'seven returns' 'The answer is 7.' 'The answer is 8.'
+small_edit is_unread 'seven returns' 'pub fn seven' 'pub fun seven'
+small_edit is_elsewhere 'seven loops' '    7' '    6'
+small_fails 'an edit that is not refused and one that does not reach the prover are told' '4 passed, 2 failed' \
+    'edit seven/is_survivor: NOT REFUSED: the crate is still proved with this edit' 'the edit seven/is_survivor is not refused by the prover' \
+    'edit seven/is_unread: BAD EDIT: it did not reach the prover' 'the edit seven/is_unread is not refused by the prover' 'edits: 2 refused, 2 not:'
+found=$(edits_judged "$small" | cut -d: -f1)
+case $(echo $found) in
+    'seven/is_elsewhere seven/is_survivor seven/is_unread') pass 'gate: an edit that is refused elsewhere than it says is told' ;;
+    *) fail "gate: of the small tree's edits these are told as refused elsewhere: $(echo $found)" ;;
+esac
+
+# what part edits would see before any proof: the way to try an edit sees it too
+rm "$small"/crates/seven/must-fail/*
+small_edit is_gone 'seven returns' '    9' '    8'
+small_edit is_twice 'seven returns' '7' '8'
+found=$(edits_tried "$small")
+if [ $? -eq 0 ]; then
+    fail 'gate: edits whose old texts do not stand once are taken as refused'
+elif [ "$(echo "$found" | sort | tr '\n' '/')" != "$(printf '%s/' 'edit seven/is_gone: BAD EDIT: an old text is not in src/lib.rt' \
+    'edit seven/is_twice: BAD EDIT: an old text is in src/lib.rt more than once' 'edits: 0 refused, 2 not: seven/is_twice seven/is_gone')" ]; then
+    fail "gate: of edits whose old texts do not stand once it is said: $found"
+else
+    pass 'gate: edits whose old texts do not stand once are told'
+fi
+
+# a crate that is not proved, and beside it a program that is and writes something else
+sed 's/^    7$/    8/' "$small/crates/seven/src/lib.rt" >"$small/wrong"
+mv "$small/wrong" "$small/crates/seven/src/lib.rt"
+rm "$small"/crates/seven/must-fail/*
+small_edit is_refused 'seven returns' '    8' '    9'
+echo 'silent:' >>"$small/crates.txt"
+mkdir -p "$small/crates/silent/src"
+echo 'fn main() {}' >"$small/crates/silent/src/main.rt"
+echo 'a line' >"$small/crates/silent/stdout"
+small_fails 'a crate that is not proved and a program that writes something else are told' '1 passed, 3 failed' \
+    'seven is not proved from nothing' "silent: what the program wrote is not what its file 'stdout' has" \
+    "silent is proved, and does not write what its file 'stdout' has" 'the edits are not tried'
+rm -rf "$small"
 
 # ---- the kit and the other tools
 on_path no-kit rt 'the command rt is missing'

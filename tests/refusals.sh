@@ -1,6 +1,8 @@
-# The must-fail edits after `rt ci`: the prover refused each of them first where its line `# refused at:` says (tests/edits.sh has the rule). And the comparison itself:
-# three edits of `listing`, each with the body of another, deny something else than they name, and beside one that is as it was exactly these three are told.
+# The must-fail edits after the proofs: the prover refused each of them first where its line `# refused at:` says (tests/edits.sh has the rule). And the
+# comparison itself: three edits of `listing`, each with the body of another, deny something else than they name, and beside one that is as it was exactly
+# these three are told.
 type edits_judged >/dev/null 2>&1 || . "$root/tests/edits.sh"
+type edits_tried >/dev/null 2>&1 || . "$root/tests/tried.sh"
 wrong=$(edits_judged "$root")
 if [ -z "$wrong" ]; then
     pass "each must-fail edit is refused first where it says"
@@ -9,10 +11,9 @@ else
 fi
 
 refusals_copy=$(mktemp -d)
-mkdir -p "$refusals_copy/target/rlib" "$refusals_copy/target/stamp" "$refusals_copy/crates"
+mkdir -p "$refusals_copy/target/rlib" "$refusals_copy/crates"
 cp -R crates/listing "$refusals_copy/crates/"
 cp -R target/rlib/listing.rlib "$refusals_copy/target/rlib/" 2>/dev/null
-cp target/stamp/listing "$refusals_copy/target/stamp/" 2>/dev/null
 echo 'listing:' >"$refusals_copy/crates.txt"
 rm "$refusals_copy"/crates/listing/must-fail/*
 # the words of one edit over the body of another
@@ -23,10 +24,10 @@ crossed modulo_toward_zero even_block_not_reversed
 crossed even_block_not_reversed values_for_positions
 crossed values_for_positions modulo_toward_zero
 cp crates/listing/must-fail/b_adds_one_above_i_only.edit "$refusals_copy/crates/listing/must-fail/"
-(cd "$refusals_copy" && RT_JOBS=${RT_JOBS:-6} rt must-fail listing) >"$refusals_copy/log" 2>&1
+edits_tried "$refusals_copy" >"$refusals_copy/log" 2>&1
 named=$(edits_judged "$refusals_copy" | sed -n 's/^\([a-z_0-9]*\/[a-z_0-9]*\): it says .*/\1/p' | sort)
 if [ "$(echo $named)" = 'listing/even_block_not_reversed listing/modulo_toward_zero listing/values_for_positions' ] \
-    && grep -q '4 must-fail edits refused' "$refusals_copy/log"; then
+    && grep -qx 'edits: 4 refused, 0 not:' "$refusals_copy/log"; then
     pass "three edits that deny something else than they name are told, and no other"
 else
     cat "$refusals_copy/log"
