@@ -1,6 +1,6 @@
-# The levels of a pattern in words, for people: after the pattern's own line, what `explain` printed of it. Of each level the pattern, and the shorter one that it came
-# from by the step back of document 000, Remark 2: by A the last entry goes where the last port stands; by B the jack that holds the last port is taken out, and the
-# entries above the last one fall by one. At the end the sum.
+# The levels of a pattern in words, for people: after the pattern's own line, what `explain` printed of it. Of each level the pattern, and the shorter one
+# that it came from by the step back of document 000, Remark 2: by A the last entry goes where the last port stands; by B the jack that holds the last port is
+# taken out, and the entries above the last one fall by one. At the end the sum.
 
 NR == 1 { ports = split($0, entry, ","); next }
 

@@ -1,8 +1,8 @@
 # A refusal in words, for people: `number`, `place` and `earlier`, the second number, as the program told them; what was read on standard input, `bytes` long.
 # `asked` is what was asked for: a plan; a mark of a plan, whose line stands before the plan's own; a rank, which stands in the plan of one leg that starts
-# there; a pattern; the entries of a pattern alone, whose words are printed already; or a line of those that are translated, whose first 58 bytes alone are read here, less those that are 0: `place` is then its number, `jack` the
-# jack at fault, and `held` the ports that hold there, 0 for none. Each line begins with the command's `name`. The first says what is wrong and where, those after
-# it what often makes it so.
+# there; a pattern; the entries of a pattern alone, whose words are printed already; or a line of those that are translated, whose first 58 bytes alone are
+# read here, less those that are 0: `place` is then its number, `jack` the jack at fault, and `held` the ports that hold there, 0 for none. Each line begins
+# with the command's `name`. The first says what is wrong and where, those after it what often makes it so.
 
 { line[NR] = $0; whole += length($0) + 1 }
 

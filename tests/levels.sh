@@ -1,6 +1,6 @@
 # The levels of a pattern: bin/explain prints what the reference finds from the list alone (tests/reference/levels.rs), byte for byte and with the same status,
 # of patterns and of inputs with each fault. With no reference: the steps A and B that it names rebuild the pattern, and the numbers passed over add up to the
-# rank. How the command ends otherwise, and its words on standard error, are in commands.sh.
+# rank. The page for new colleagues shows what is printed. How the command ends otherwise, and its words on standard error, are in commands.sh.
 type reference_library >/dev/null 2>&1 || . "$root/tests/reference/build.sh"
 levels_out=$root/target/levels
 rm -rf "$levels_out"

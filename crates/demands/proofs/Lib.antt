@@ -1,5 +1,6 @@
--- The theorems: the three demands, both jacks of a repeated port, what a plan names, why a pattern has its rank, demand three for the bytes, reports that are sent twice and the panel to
--- restore, then what the paper says of refusals, of the end and of the longest line, that one answer meets each contract, and that only reports raise covered.
+-- The theorems: the three demands, both jacks of a repeated port, what a plan names, why a pattern has its rank, demand three for the bytes, reports that are
+-- sent twice and the panel to restore, then what the paper says of refusals, of the end and of the longest line, that one answer meets each contract, and
+-- that only reports raise covered.
 pub mod Jacks
 pub mod One
 pub mod Named

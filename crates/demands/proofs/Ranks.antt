@@ -87,7 +87,8 @@ entries-numbers : (t : List ℕ) → Refuses ofText (entriesOf t)
 unfolding entriesOf fewEntries
 entries-numbers t =
     each-then (Listed ofText) _ _ (from-need ofText 8 nowhere (entriesIn largest64 t) refl (inr (inl refl)))
-    (λ ns. of-test (Refuses ofText) (leb (length ns) mostPorts) _ _ (each-accepted (Listed ofText) _) (from-refused ofText 1 nowhere refl (inr (inr (inl refl)))))
+    (λ ns.
+    of-test (Refuses ofText) (leb (length ns) mostPorts) _ _ (each-accepted (Listed ofText) _) (from-refused ofText 1 nowhere refl (inr (inr (inl refl)))))
 
 text-numbers : (t : List ℕ) → Refuses ofText (explainOf t)
 unfolding explainOf

@@ -1,5 +1,5 @@
--- Demand one; both jacks of a repeated port; what a plan names; dictionary numbers; why a pattern has its rank; demand two; the robot of demand three; the calls of
--- the order printer; one answer to each call; what adds to covered.
+-- Demand one; both jacks of a repeated port; what a plan names; dictionary numbers; why a pattern has its rank; demand two; the robot of demand three; the
+-- calls of the order printer; one answer to each call; what adds to covered.
 pub mod One
 pub mod Jacks
 pub mod Named

@@ -25,8 +25,9 @@ pub record Reads (t p : List ℕ) : Type 0 where
 
 -- why a pattern of n ports has its rank, for every number of ports
 pub record Explains (n : ℕ) (p : List ℕ) : Type 0 where
-  -- 'for each level met down to 3, the entry at the last jack, whether the pattern came by A or by B, whether the shorter list is there read forward or backward on
-  -- the way from rank 0, and how many patterns of that level's list are passed over, in the direction it is read, before the block that holds the pattern'
+  -- 'for each level met down to 3, the entry at the last jack, whether the pattern came by A or by B, whether the shorter list is there read forward or
+  -- backward on the way from rank 0, and how many patterns of that level's list are passed over, in the direction it is read, before the block that holds the
+  -- pattern'
   pub follow : Follow true n p (levels true n p)
   -- and nothing else says so, level by level
   pub only : (ls : List Level) → Follow true n p ls → ls ≡ levels true n p

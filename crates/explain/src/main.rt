@@ -1,5 +1,5 @@
-// Why a pattern has its rank: judges the first 1,024 bytes of standard input as a pattern in one line, and prints its levels and its rank; for a refusal its number,
-// its place, and in words the jack and the rule at fault.
+// Why a pattern has its rank: judges the first 1,024 bytes of standard input as a pattern in one line, and prints its levels and its rank; for a refusal its
+// number, its place, and in words the jack and the rule at fault.
 use console::printed;
 use console::read_input;
 use console::tell_refusal;

@@ -1,5 +1,5 @@
--- How long a text is: that of a pattern has at most 1,104 bytes on the device with 20 ports (`why-fits`), since the line of a level has at most 60 and there are at
--- most 18; and that of a refusal is shorter (`refused-fits`).
+-- How long a text is: that of a pattern has at most 1,104 bytes on the device with 20 ports (`why-fits`), since the line of a level has at most 60 and there
+-- are at most 18; and that of a refusal is shorter (`refused-fits`).
 -- Assumes nothing.
 use mathlib.Core.Path.{_≡_, refl}
 use mathlib.Core.Bool.{Bool, true, false, cond}
@@ -26,7 +26,8 @@ use Rattle.text_numbers.proofs.Lengths.{digits-at-most, digits-64}
 use Rattle.text_keys.specs.Parts.{newline}
 use Rattle.line_refusal.specs.Text.{refusedKey, atKey, refusalText}
 use Rattle.line_refusal.specs.Words.{quoted}
-use Rattle.explaining.specs.Text.{byText, readText, ended, levelText, levelsText, rankText, whyText, said, atJack, wrongText, refusedText, mostExplained}
+use Rattle.explaining.specs.Text.{byText, readText, ended, levelText, levelsText, rankText, whyText, mostExplained}
+use Rattle.explaining.specs.Text.{said, jackText, wrongText, refusedText}
 
 -- the lowest number of 19 digits
 abbrev low19 : ℕ
@@ -140,7 +141,7 @@ one-within false most t u h l = l
 said-length : (front : List ℕ) (n : ℕ) (rest : List ℕ) → n ≤ largest64 → length (said front n rest) ≤ length front + 20 + length rest
 said-length front n rest h = omega (arith, length-append front (digitsOf n ++ rest), length-append (digitsOf n) rest, digits-64 n h)
 
-jack-length : (j : ℕ) (rest : List ℕ) (n : ℕ) → j ≤ largest64 → n ≤ largest64 → length (atJack j rest n) ≤ 45 + length rest
+jack-length : (j : ℕ) (rest : List ℕ) (n : ℕ) → j ≤ largest64 → n ≤ largest64 → length (jackText j rest n) ≤ 45 + length rest
 unfolding quoted
 jack-length j rest n hj hn =
     omega (arith, length-append (said (quoted "jack ") j rest) (digitsOf n), said-length (quoted "jack ") j rest hj, digits-64 n hn)
@@ -157,14 +158,14 @@ wrong-110 k j i x hj hi hx =
     (one-within (eqb k 4) 110 _ _
     (omega (
       arith,
-      length-append (atJack j (quoted ": port ") x) earlier,
+      length-append (jackText j (quoted ": port ") x) earlier,
       length-append (quoted " is already at jack ") (digitsOf i),
       jack-length j (quoted ": port ") x hj hx,
       digits-64 i hi,
     ))
     (omega (
       arith,
-      length-append (atJack j (quoted ": port ") j) (quoted " has the jack's own number"),
+      length-append (jackText j (quoted ": port ") j) (quoted " has the jack's own number"),
       jack-length j (quoted ": port ") j hj hj,
     ))))))
 

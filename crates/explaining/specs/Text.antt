@@ -1,5 +1,5 @@
--- Why a pattern has its rank, as text (request 5; docs/RANKS.md): for a pattern in one line a line for each level met down to 3, and then the rank; for a bad one
--- the refusal, and in words the jack and the rule at fault.
+-- Why a pattern has its rank, as text (request 5; docs/RANKS.md): for a pattern in one line a line for each level met down to 3, and then the rank; for a bad
+-- one the refusal, and in words the jack and the rule at fault.
 -- Assumes nothing.
 use Prim.Native.Nat.{ℕ}
 use mathlib.Core.Bool.{Bool, true, false, cond}
@@ -61,19 +61,19 @@ abbrev pub said : List ℕ → ℕ → List ℕ → List ℕ
 said front n rest = front ++ (digitsOf n ++ rest)
 
 -- what is said at a jack, up to a number: `jack 3: port 2`
-abbrev pub atJack : ℕ → List ℕ → ℕ → List ℕ
-atJack j rest n = said (quoted "jack ") j rest ++ digitsOf n
+abbrev pub jackText : ℕ → List ℕ → ℕ → List ℕ
+jackText j rest n = said (quoted "jack ") j rest ++ digitsOf n
 
--- the jack and the rule at fault, in words, by the number k of the refusal; j is its place, i the earlier jack with the same port, and x what the words name beside
--- them: for 8 which entry it is, for 3 how many ports there are, for 4 the port
+-- the jack and the rule at fault, in words, by the number k of the refusal; j is its place, i the earlier jack with the same port, and x what the words name
+-- beside them: for 8 which entry it is, for 3 how many ports there are, for 4 the port
 unfoldable pub wrongText : ℕ → ℕ → ℕ → ℕ → List ℕ
 wrongText k j i x =
     cond (eqb k 11) (quoted "the newline is missing or not last")
     (cond (eqb k 8) (said (quoted "jack ") x (quoted ": not a plain decimal number of at most 64 bits"))
     (cond (eqb k 1) (quoted "a pattern has 2 to 20 entries")
-    (cond (eqb k 3) (atJack j (quoted ": its entry is none of the ports 1 to ") x)
-    (cond (eqb k 4) (atJack j (quoted ": port ") x ++ (quoted " is already at jack " ++ digitsOf i))
-    (atJack j (quoted ": port ") j ++ quoted " has the jack's own number")))))
+    (cond (eqb k 3) (jackText j (quoted ": its entry is none of the ports 1 to ") x)
+    (cond (eqb k 4) (jackText j (quoted ": port ") x ++ (quoted " is already at jack " ++ digitsOf i))
+    (jackText j (quoted ": port ") j ++ quoted " has the jack's own number")))))
 
 -- a refusal as text: its number, its place and the words, each on a line
 unfoldable pub refusedText : ℕ → ℕ → ℕ → ℕ → List ℕ

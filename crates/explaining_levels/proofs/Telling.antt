@@ -1,5 +1,5 @@
--- What the loop over the levels keeps: of the text of a pattern, the lines of the levels that are left and the line of its rank are still to be put (`Telling`), from the
--- first level on (`telling-first`), one level further (`telling-next`), and at the end (`rank-room`, `rank-put`).
+-- What the loop over the levels keeps: of the text of a pattern, the lines of the levels that are left and the line of its rank are still to be put
+-- (`Telling`), from the first level on (`telling-first`), one level further (`telling-next`), and at the end (`rank-room`, `rank-put`).
 -- Assumes nothing.
 use mathlib.Core.Path.{_≡_, refl, sym, ap, subst, _∙_}
 use mathlib.Core.Bool.{Bool, true}
@@ -71,7 +71,8 @@ module _ (p old a b : List ℕ) (n : ℕ) (forward : Bool) (sum at : ℕ) (buf :
         ∙ (λ k. sym (L .told) k ∷ levels (sym (L .told) k .forward) (sym (L .ports) k) (sym (L .shown) k))
 
     -- so its line comes first
-    line : Going 0 (whyText p) old at (levelText (levelIs n l) ++ (levelsText (levels (l .forward) (l .ports) (take (l .ports) c)) ++ rankText (rank (length p) p))) buf
+    line : let more = levelsText (levels (l .forward) (l .ports) (take (l .ports) c)) ++ rankText (rank (length p) p) in
+        Going 0 (whyText p) old at (levelText (levelIs n l) ++ more) buf
     unfolding levelsText
     line =
         subst (λ x. Going 0 (whyText p) old at x buf)
@@ -108,7 +109,9 @@ module _ (p old a b : List ℕ) (n : ℕ) (forward : Bool) (sum at : ℕ) (buf :
   module _ (few : n < 3) where
     last : Going 0 (whyText p) old at (rankText (rank (length p) p)) buf
     unfolding levelsText
-    last = subst (λ ls. Going 0 (whyText p) old at (levelsText ls ++ rankText (rank (length p) p)) buf) (levels-none n forward (take n a) (omega arith)) (T .left)
+    last =
+        subst (λ ls. Going 0 (whyText p) old at (levelsText ls ++ rankText (rank (length p) p)) buf) (levels-none n forward (take n a) (omega arith))
+        (T .left)
 
     all-added : sum ≡ rank (length p) p
     unfolding total

@@ -65,7 +65,8 @@ fn put_rank(rank: u64, from: usize, buf: &mut [u8]) -> usize
     put_text(b"\n", end, buf)
 }
 
-// Why the pattern of so many ports that the copy begins with has its rank, at the front of a buffer; how many bytes that takes. The copy and the inverse are used up.
+// Why the pattern of so many ports that the copy begins with has its rank, at the front of a buffer; how many bytes that takes. The copy and the inverse are
+// used up.
 pub fn put_why(
     copy: &mut [u8; LONGEST],
     inverse: &mut [u8; LONGEST],

@@ -14,8 +14,8 @@ use Rattle.explaining_line.specs.Answers.{ExplainedIs}
 use Rattle.explaining_line.specs.declared.Explained.{Explained}
 
 -- the answer for what is told so, and so printed
-pub explained-as : {told judged : Told (Unit {0})} {text printed buf left : List ℕ} {r : Explained} → told ≡ judged → text ≡ printed → ExplainedIs told text buf r left
-    → ExplainedIs judged printed buf r left
+pub explained-as : {told judged : Told (Unit {0})} {text printed buf left : List ℕ} {r : Explained} → told ≡ judged → text ≡ printed
+    → ExplainedIs told text buf r left → ExplainedIs judged printed buf r left
 explained-as {r = r} e f E = record { judged = E .judged ∙ e; puts = puts-as f (E .puts); fits = E .fits }
 
 -- the text of a refusal
@@ -23,7 +23,8 @@ abbrev pub refusalAt : ℕ → Spot → ℕ → List ℕ
 refusalAt k s x = refusedText k (spotNumber s) (earlierNumber s) x
 
 module _ (p : List ℕ) where
-  pub pattern-refused : (k : ℕ) (s : Spot) (x j : ℕ) → refused k s ≡ checkOf mostPorts p → j ≡ spotNumber s → x ≡ namedIn p k j → refusalAt k s x ≡ patternText p
+  pub pattern-refused : (k : ℕ) (s : Spot) (x j : ℕ) → refused k s ≡ checkOf mostPorts p → j ≡ spotNumber s → x ≡ namedIn p k j
+      → refusalAt k s x ≡ patternText p
   unfolding patternText
   pattern-refused k s x j e f g = ap (refusalAt k s) (g ∙ ap (namedIn p k) f) ∙ ap (λ told. toldText told (namedIn p) (λ ok. whyText p)) e
 

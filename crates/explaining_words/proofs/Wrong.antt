@@ -7,7 +7,7 @@ use Prim.Native.Nat.{ℕ}
 use borrow.Author.Tests.{ne-eqb}
 use Rattle.text_numbers.specs.Decimal.{digitsOf}
 use Rattle.line_refusal.specs.Words.{quoted}
-use Rattle.explaining.specs.Text.{said, atJack, wrongText}
+use Rattle.explaining.specs.Text.{said, jackText, wrongText}
 
 module _ (k j i x : ℕ) where
   pub wrong-11 : k ≡ 11 → quoted "the newline is missing or not last" ≡ wrongText k j i x
@@ -22,14 +22,14 @@ module _ (k j i x : ℕ) where
   unfolding wrongText
   wrong-1 e = sym (ap (λ n. wrongText n j i x) e)
 
-  pub wrong-3 : k ≡ 3 → atJack j (quoted ": its entry is none of the ports 1 to ") x ≡ wrongText k j i x
+  pub wrong-3 : k ≡ 3 → jackText j (quoted ": its entry is none of the ports 1 to ") x ≡ wrongText k j i x
   unfolding wrongText
   wrong-3 e = sym (ap (λ n. wrongText n j i x) e)
 
-  pub wrong-4 : k ≡ 4 → atJack j (quoted ": port ") x ++ (quoted " is already at jack " ++ digitsOf i) ≡ wrongText k j i x
+  pub wrong-4 : k ≡ 4 → jackText j (quoted ": port ") x ++ (quoted " is already at jack " ++ digitsOf i) ≡ wrongText k j i x
   unfolding wrongText
   wrong-4 e = sym (ap (λ n. wrongText n j i x) e)
 
-  pub wrong-5 : (k ≢ 11) × (k ≢ 8) × (k ≢ 1) × (k ≢ 3) × (k ≢ 4) → atJack j (quoted ": port ") j ++ quoted " has the jack's own number" ≡ wrongText k j i x
+  pub wrong-5 : (k ≢ 11) × (k ≢ 8) × (k ≢ 1) × (k ≢ 3) × (k ≢ 4) → jackText j (quoted ": port ") j ++ quoted " has the jack's own number" ≡ wrongText k j i x
   unfolding wrongText
   wrong-5 d = rw (ne-eqb k 11 (d .0), ne-eqb k 8 (d .1), ne-eqb k 1 (d .2), ne-eqb k 3 (d .3), ne-eqb k 4 (d .4))

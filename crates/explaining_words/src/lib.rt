@@ -13,7 +13,7 @@ ghost use Rattle.text_numbers.specs.Decimal.{digitsOf};
 ghost use Rattle.words.specs.Meaning.{numberOf};
 ghost use Rattle.line_putting.specs.Putting.{Puts};
 ghost use Rattle.line_refusal.specs.Words.{quoted};
-ghost use Rattle.explaining.specs.Text.{said, atJack, wrongText, refusedText, mostExplained};
+ghost use Rattle.explaining.specs.Text.{said, jackText, wrongText, refusedText, mostExplained};
 
 // A number between two texts, put into a buffer from a place on; the place after it. So do the next ones.
 fn put_said(front: &[u8], n: u64, rest: &[u8], from: usize, buf: &mut [u8]) -> usize
@@ -27,8 +27,8 @@ fn put_said(front: &[u8], n: u64, rest: &[u8], from: usize, buf: &mut [u8]) -> u
 
 // What is said at a jack, up to a number.
 fn put_jack(j: u64, rest: &[u8], n: u64, from: usize, buf: &mut [u8]) -> usize
-    requires { ⌜ from + length (atJack j (now rest) n) ≤ length (now buf) ⌝ }
-    ensures { λ r. ⌜ Puts from (atJack j (now (rest .entry)) n) (now (buf .entry)) r (now (buf .exit)) ⌝ }
+    requires { ⌜ from + length (jackText j (now rest) n) ≤ length (now buf) ⌝ }
+    ensures { λ r. ⌜ Puts from (jackText j (now (rest .entry)) n) (now (buf .entry)) r (now (buf .exit)) ⌝ }
 {
     let number = put_said(b"jack ", j, rest, from, buf);
     put_number(b"", n, number, buf)
@@ -36,8 +36,9 @@ fn put_jack(j: u64, rest: &[u8], n: u64, from: usize, buf: &mut [u8]) -> usize
 
 // A port that two jacks have: the one at fault, and the earlier one.
 fn put_repeated(j: u64, port: u64, earlier: u64, from: usize, buf: &mut [u8]) -> usize
-    requires { ⌜ from + length (atJack j (quoted ": port ") port ++ (quoted " is already at jack " ++ digitsOf earlier)) ≤ length (now buf) ⌝ }
-    ensures { λ r. ⌜ Puts from (atJack j (quoted ": port ") port ++ (quoted " is already at jack " ++ digitsOf earlier)) (now (buf .entry)) r (now (buf .exit)) ⌝ }
+    requires { ⌜ from + length (jackText j (quoted ": port ") port ++ (quoted " is already at jack " ++ digitsOf earlier)) ≤ length (now buf) ⌝ }
+    ensures { λ r. ⌜ Puts from (jackText j (quoted ": port ") port ++ (quoted " is already at jack " ++ digitsOf earlier))
+        (now (buf .entry)) r (now (buf .exit)) ⌝ }
 {
     let already = put_jack(j, b": port ", port, from, buf);
     let number = put_text(b" is already at jack ", already, buf);
@@ -46,8 +47,8 @@ fn put_repeated(j: u64, port: u64, earlier: u64, from: usize, buf: &mut [u8]) ->
 
 // A port at the jack of its own number.
 fn put_own(j: u64, from: usize, buf: &mut [u8]) -> usize
-    requires { ⌜ from + length (atJack j (quoted ": port ") j ++ quoted " has the jack's own number") ≤ length (now buf) ⌝ }
-    ensures { λ r. ⌜ Puts from (atJack j (quoted ": port ") j ++ quoted " has the jack's own number") (now (buf .entry)) r (now (buf .exit)) ⌝ }
+    requires { ⌜ from + length (jackText j (quoted ": port ") j ++ quoted " has the jack's own number") ≤ length (now buf) ⌝ }
+    ensures { λ r. ⌜ Puts from (jackText j (quoted ": port ") j ++ quoted " has the jack's own number") (now (buf .entry)) r (now (buf .exit)) ⌝ }
 {
     let own = put_jack(j, b": port ", j, from, buf);
     put_text(b" has the jack's own number", own, buf)

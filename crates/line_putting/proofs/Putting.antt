@@ -1,5 +1,5 @@
--- Texts put into a buffer one behind the other: two of them are one text (`puts-both`), no text leaves all as it is (`puts-none`), and a text from the front on is
--- that text over the buffer (`puts-front`). At the end, what a loop that puts line after line keeps (`Going`).
+-- Texts put into a buffer one behind the other: two of them are one text (`puts-both`), no text leaves all as it is (`puts-none`), and a text from the front
+-- on is that text over the buffer (`puts-front`). At the end, what a loop that puts line after line keeps (`Going`).
 -- Assumes nothing.
 use mathlib.Core.Path.{_≡_, refl, sym, ap, subst, _∙_}
 use mathlib.Core.List.{List, [], _++_, append-assoc}

@@ -1,5 +1,5 @@
--- The list for n ports, read forward or backward, has the block of each letter and each i after as many patterns as are passed over (`block-there`), and a pattern
--- at one place only (`only-place`).
+-- The list for n ports, read forward or backward, has the block of each letter and each i after as many patterns as are passed over (`block-there`), and a
+-- pattern at one place only (`only-place`).
 -- Assumes nothing.
 use mathlib.Core.Path.{_≡_, refl, sym, ap, _∙_}
 use mathlib.Core.Bool.{Bool, true, false, not, cond}

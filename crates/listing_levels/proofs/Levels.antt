@@ -98,7 +98,9 @@ module _ (forward : Bool) (m : ℕ) (p : List ℕ) (l : Level) (D : Derangement 
   passed-so =
       let P = S .passes in
       let whole : length (reading forward n) ≡ length (P .before) + (length (blockOf n l) + length (P .after)) =
-      ap length (P .there) ∙ length-append (P .before) (blockOf n l ++ P .after) ∙ ap (λ (x : ℕ). length (P .before) + x) (length-append (blockOf n l) (P .after)) in
+      ap length (P .there)
+      ∙ length-append (P .before) (blockOf n l ++ P .after)
+      ∙ ap (λ (x : ℕ). length (P .before) + x) (length-append (blockOf n l) (P .after)) in
       let long : length (blockOf n l) ≡ length (reading (l .forward) fewer) = length-map (reading (l .forward) fewer) (step (l .by) n (l .last)) in
       let place = only-place forward n p (length (P .before) + inner) (omega (arith, whole, long, inner-below)) there in
       let same : back (l .by) n p ≡ S .from = ap (back (l .by) n) (S .came) ∙ back-step (l .by) m (l .last) (S .from) fits (S .pattern) in
@@ -125,7 +127,8 @@ module _ (forward : Bool) (m : ℕ) (p : List ℕ) (l : Level) (D : Derangement 
 pub levels-first : (P : ℕ → Type 0) → ((n : ℕ) → n ≤ 2 → P n) → ((m : ℕ) → ((w : Letter) → P (shorter w (suc (suc (suc m))))) → P (suc (suc (suc m))))
     → (n : ℕ) → P n
 levels-first P few more =
-    shorter-first P (few 0 (omega arith)) (few 1 (omega arith)) (λ m. elim m [ zero ↦ λ shorter-ones. few 2 (omega arith) | suc k ↦ λ shorter-ones. more k shorter-ones ])
+    shorter-first P (few 0 (omega arith)) (few 1 (omega arith))
+    (λ m. elim m [ zero ↦ λ shorter-ones. few 2 (omega arith) | suc k ↦ λ shorter-ones. more k shorter-ones ])
 
 -- there are none up to 2 ports
 pub levels-none : (n : ℕ) (forward : Bool) (p : List ℕ) → n ≤ 2 → levels forward n p ≡ []
@@ -142,8 +145,8 @@ levels-follow =
     (λ n h forward p D. rw (levels-none n forward p h) h)
     (λ m shorter-ones forward p D.
     let n = suc (suc (suc m)) in
-    rw (levels-next forward m p (letter n p) refl)
-    (omega arith, level-shows forward (suc m) p D, shorter-ones (letter n p) (levelOf forward n p .forward) (back (letter n p) n p) (letter-back (suc m) p D .0)))
+    let rest = shorter-ones (letter n p) (levelOf forward n p .forward) (back (letter n p) n p) (letter-back (suc m) p D .0) in
+    rw (levels-next forward m p (letter n p) refl) (omega arith, level-shows forward (suc m) p D, rest))
 
 -- no other record follows the pattern so, level by level
 pub only-levels : (ls : List Level) (n : ℕ) (forward : Bool) (p : List ℕ) → Derangement n p → Follow forward n p ls → ls ≡ levels forward n p
@@ -215,7 +218,8 @@ levels-rebuild =
     let l = levelOf forward n p in
     let made = letter-back (suc m) p D in
     rw (levels-next forward m p (letter n p) refl)
-    (ap (step (letter n p) n (entry p n)) (shorter-ones (letter n p) (l .forward) (back (letter n p) n p) (two-below n p (omega arith) D) (made .0)) ∙ sym (made .1)))
+    (ap (step (letter n p) n (entry p n)) (shorter-ones (letter n p) (l .forward) (back (letter n p) n p) (two-below n p (omega arith) D) (made .0))
+    ∙ sym (made .1)))
 
 -- ---- how many there are
 

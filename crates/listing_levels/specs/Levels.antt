@@ -80,8 +80,8 @@ pub record Passes (forward : Bool) (n : ℕ) (l : Level) : Type 0 where
   pub there : reading forward n ≡ before ++ (blockOf n l ++ after)
   pub many : length before ≡ l .over
 
--- l is the level of the pattern p of n ports, where the list for n ports is read forward or backward: its numbers are those of p, the shorter list is read the way
--- that relation (2) of document 000 has it, and the block that it names, which holds p, comes after so many patterns
+-- l is the level of the pattern p of n ports, where the list for n ports is read forward or backward: its numbers are those of p, the shorter list is read
+-- the way that relation (2) of document 000 has it, and the block that it names, which holds p, comes after so many patterns
 pub record Shows (forward : Bool) (n : ℕ) (p : List ℕ) (l : Level) : Type 0 where
   pub ports : l .ports ≡ n
   pub last : l .last ≡ entry p n

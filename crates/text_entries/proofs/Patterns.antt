@@ -1,5 +1,5 @@
--- The entries of a pattern: each is one of its ports (`pattern-ports`), so they are bytes (`ports-bytes`, `bytes-back`), and a pattern is read back from its text
--- (`pattern-read`), which is one line (`entries-line`).
+-- The entries of a pattern: each is one of its ports (`pattern-ports`), so they are bytes (`ports-bytes`, `bytes-back`), and a pattern is read back from its
+-- text (`pattern-read`), which is one line (`entries-line`).
 -- Assumes nothing.
 use mathlib.Core.Path.{_≡_, refl, sym, ap, _∙_}
 use mathlib.Core.List.{List, [], _∷_, _++_, map}

@@ -1,5 +1,5 @@
--- What the answer of the reader gives: entries that lie at the front of its array (`given-front`), as many as it says (`given-long`), and no more than there are
--- ports (`entries-few`).
+-- What the answer of the reader gives: entries that lie at the front of its array (`given-front`), as many as it says (`given-long`), and no more than there
+-- are ports (`entries-few`).
 -- Assumes nothing.
 use mathlib.Core.Path.{_≡_, sym, ap, _∙_}
 use mathlib.Core.List.{List, []}

@@ -19,11 +19,15 @@ put-text-requires-2 c κs = let t = c .before .before in rw (t .enum-told2 .give
 
 returns : tie.Need-returns
 unfolding quoted
-returns c = let p = c .before .before in puts-as (ap (λ x. byText (letterOf x)) (sym (p .before .before .before .enum-told .given .1))) (p .put-text .ensures)
+returns c =
+    let p = c .before .before in
+    puts-as (ap (λ x. byText (letterOf x)) (sym (p .before .before .before .enum-told .given .1))) (p .put-text .ensures)
 
 returns-2 : tie.Need-returns-2
 unfolding quoted
-returns-2 c = let p = c .before .before in puts-as (ap (λ x. byText (letterOf x)) (sym (p .before .before .before .enum-told2 .given .1))) (p .put-text2 .ensures)
+returns-2 c =
+    let p = c .before .before in
+    puts-as (ap (λ x. byText (letterOf x)) (sym (p .before .before .before .enum-told2 .given .1))) (p .put-text2 .ensures)
 
 pub put-by-spec : {M : Type 1} → statement M
 put-by-spec =

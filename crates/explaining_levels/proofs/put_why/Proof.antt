@@ -1,4 +1,5 @@
--- `explaining_levels::put_why`: of the text, the lines of the levels that are left and the line of the rank are still to be put. The ports fall with each level.
+-- `explaining_levels::put_why`: of the text, the lines of the levels that are left and the line of the rank are still to be put. The ports fall with each
+-- level.
 -- Assumes nothing.
 use native.Mathlib.Omega.{arith}
 use lib.ListN.{take}

@@ -25,7 +25,8 @@ sound : (c : tie.After-enum-told) → accepted tt ≡ checkOf mostPorts (start (
 sound c = ap outcomeTold (sym (c .enum-told .given .1)) ∙ c .before .before .check-inverse .ensures .0
 
 -- and it took the pattern in
-taken : (c : tie.After-enum-told) → let i = c .before .before in TakenIn (start i .args .p .now) (i .check-inverse .last .1 .0) (i .check-inverse .last .1 .1 .0)
+taken : (c : tie.After-enum-told) → let i = c .before .before in
+    TakenIn (start i .args .p .now) (i .check-inverse .last .1 .0) (i .check-inverse .last .1 .1 .0)
 taken c = c .before .before .check-inverse .ensures .1 .1 .1 (sound c)
 
 cast-put-why : tie.Need-cast-put-why

@@ -16,7 +16,8 @@ returns c =
     record {
       judged = refl;
       puts =
-          puts-as (λ k. refusedText (numberOf (a .f .reason)) (e .before .place-number .ensures k) (e .earlier-number .ensures k) (a .x)) (p .put-refused .ensures .0);
+          puts-as (λ k. refusedText (numberOf (a .f .reason)) (e .before .place-number .ensures k) (e .earlier-number .ensures k) (a .x))
+          (p .put-refused .ensures .0);
       fits = p .put-refused .ensures .1;
     }
 

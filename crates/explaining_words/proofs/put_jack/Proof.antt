@@ -5,17 +5,18 @@ use borrow.Author.Needs.{needs}
 use Rattle.text_numbers.specs.Decimal.{digitsOf}
 use Rattle.line_putting.proofs.Putting.{Going, going-first, next-room, next-put}
 use Rattle.line_refusal.specs.Words.{quoted}
-use Rattle.explaining.specs.Text.{said, atJack}
+use Rattle.explaining.specs.Text.{said, jackText}
 use Rattle.explaining_words.proofs.put_jack.Statement.{statement}
 use Rattle.explaining_words.proofs.put_jack.Tie as tie
 
 -- before the words, and after them
 at-words : (s : tie.Start) → let a = s .args in
-    Going (a .from) (atJack (a .j) (a .rest .now) (a .n)) (a .buf .now) (a .from) (said (quoted "jack ") (a .j) (a .rest .now) ++ digitsOf (a .n)) (a .buf .now)
+    let all = said (quoted "jack ") (a .j) (a .rest .now) ++ digitsOf (a .n) in
+    Going (a .from) (jackText (a .j) (a .rest .now) (a .n)) (a .buf .now) (a .from) all (a .buf .now)
 at-words s = going-first _ _ _ (s .pre)
 
 at-number : (c : tie.After-put-said) → let a = c .before .before .before .before .before .args in
-    Going (a .from) (atJack (a .j) (a .rest .now) (a .n)) (a .buf .now) (c .put-said .result) (digitsOf (a .n)) (c .put-said .last .1 .1 .1 .1 .0)
+    Going (a .from) (jackText (a .j) (a .rest .now) (a .n)) (a .buf .now) (c .put-said .result) (digitsOf (a .n)) (c .put-said .last .1 .1 .1 .1 .0)
 unfolding quoted
 at-number c = next-put _ _ (at-words (c .before .before .before .before .before)) (c .put-said .ensures)
 

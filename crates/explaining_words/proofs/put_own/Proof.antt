@@ -4,25 +4,25 @@ use mathlib.Core.List.{_++_}
 use borrow.Author.Needs.{needs}
 use Rattle.line_putting.proofs.Putting.{Going, going-first, next-room, next-put}
 use Rattle.line_refusal.specs.Words.{quoted}
-use Rattle.explaining.specs.Text.{atJack}
+use Rattle.explaining.specs.Text.{jackText}
 use Rattle.explaining_words.proofs.put_own.Statement.{statement}
 use Rattle.explaining_words.proofs.put_own.Tie as tie
 
 -- before the jack, and after it
 at-jack : (s : tie.Start) → let a = s .args in
-    let all = atJack (a .j) (quoted ": port ") (a .j) ++ quoted " has the jack's own number" in
+    let all = jackText (a .j) (quoted ": port ") (a .j) ++ quoted " has the jack's own number" in
     Going (a .from) all (a .buf .now) (a .from) all (a .buf .now)
 at-jack s = going-first _ _ _ (s .pre)
 
 at-own : (c : tie.After-put-jack) → let a = c .before .before .before .before .args in
-    Going (a .from) (atJack (a .j) (quoted ": port ") (a .j) ++ quoted " has the jack's own number") (a .buf .now) (c .put-jack .result)
+    Going (a .from) (jackText (a .j) (quoted ": port ") (a .j) ++ quoted " has the jack's own number") (a .buf .now) (c .put-jack .result)
     (quoted " has the jack's own number") (c .put-jack .last .1 .1 .1 .1 .0)
 unfolding quoted
 at-own c = next-put _ _ (at-jack (c .before .before .before .before)) (c .put-jack .ensures)
 
 put-jack-requires : tie.Need-put-jack-requires
 unfolding quoted
-put-jack-requires c κs = let s = c .before .before .before in next-room (atJack (s .args .j) (quoted ": port ") (s .args .j)) _ (at-jack s)
+put-jack-requires c κs = let s = c .before .before .before in next-room (jackText (s .args .j) (quoted ": port ") (s .args .j)) _ (at-jack s)
 
 put-text-requires : tie.Need-put-text-requires
 unfolding quoted

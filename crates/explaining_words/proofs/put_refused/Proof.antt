@@ -57,7 +57,8 @@ abbrev s2 : tie.After-put-wrong → tie.Start
 s2 c = s1 (c .before .before .before .before)
 
 -- the words are those of the number
-wrong-so : (c : tie.After-put-spelled) → let a = s1 c .args in wrongText (c .before .before .before .reason-number .result) (a .place) (a .earlier) (a .x) ≡ words (s1 c)
+wrong-so : (c : tie.After-put-spelled) → let a = s1 c .args in
+    wrongText (c .before .before .before .reason-number .result) (a .place) (a .earlier) (a .x) ≡ words (s1 c)
 wrong-so c = let a = s1 c .args in ap (λ k. wrongText k (a .place) (a .earlier) (a .x)) (c .before .before .before .reason-number .ensures)
 
 at-end : (c : tie.After-put-wrong) → Left (s2 c) (c .put-wrong .result) ended (c .put-wrong .last .1 .1 .1 .1 .1 .0)

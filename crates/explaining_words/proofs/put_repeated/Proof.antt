@@ -6,7 +6,7 @@ use borrow.Author.Needs.{needs}
 use Rattle.text_numbers.specs.Decimal.{digitsOf}
 use Rattle.line_putting.proofs.Putting.{Going, going-first, next-room, next-put}
 use Rattle.line_refusal.specs.Words.{quoted}
-use Rattle.explaining.specs.Text.{atJack}
+use Rattle.explaining.specs.Text.{jackText}
 use Rattle.explaining_words.proofs.put_repeated.Statement.{statement}
 use Rattle.explaining_words.proofs.put_repeated.Tie as tie
 
@@ -14,10 +14,10 @@ use Rattle.explaining_words.proofs.put_repeated.Tie as tie
 abbrev Left : tie.Start → ℕ → List ℕ → List ℕ → Type 0
 Left s at rest buf =
     let a = s .args in
-    Going (a .from) (atJack (a .j) (quoted ": port ") (a .port) ++ (quoted " is already at jack " ++ digitsOf (a .earlier))) (a .buf .now) at rest buf
+    Going (a .from) (jackText (a .j) (quoted ": port ") (a .port) ++ (quoted " is already at jack " ++ digitsOf (a .earlier))) (a .buf .now) at rest buf
 
 at-jack : (s : tie.Start) → let a = s .args in
-    Left s (a .from) (atJack (a .j) (quoted ": port ") (a .port) ++ (quoted " is already at jack " ++ digitsOf (a .earlier))) (a .buf .now)
+    Left s (a .from) (jackText (a .j) (quoted ": port ") (a .port) ++ (quoted " is already at jack " ++ digitsOf (a .earlier))) (a .buf .now)
 at-jack s = going-first _ _ _ (s .pre)
 
 abbrev s1 : tie.After-put-jack → tie.Start
@@ -37,7 +37,7 @@ at-earlier c = next-put _ _ (at-already (c .before .before .before .before .befo
 
 put-jack-requires : tie.Need-put-jack-requires
 unfolding quoted
-put-jack-requires c κs = let s = c .before .before .before in next-room (atJack (s .args .j) (quoted ": port ") (s .args .port)) _ (at-jack s)
+put-jack-requires c κs = let s = c .before .before .before in next-room (jackText (s .args .j) (quoted ": port ") (s .args .port)) _ (at-jack s)
 
 put-text-requires : tie.Need-put-text-requires
 unfolding quoted

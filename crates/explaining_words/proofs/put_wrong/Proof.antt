@@ -7,7 +7,7 @@ use borrow.Author.Needs.{needs}
 use Rattle.text_numbers.specs.Decimal.{digitsOf}
 use Rattle.line_putting.proofs.Putting.{puts-as, room-as}
 use Rattle.line_refusal.specs.Words.{quoted}
-use Rattle.explaining.specs.Text.{said, atJack, wrongText}
+use Rattle.explaining.specs.Text.{said, jackText, wrongText}
 use Rattle.explaining_words.proofs.Wrong.{wrong-11, wrong-8, wrong-1, wrong-3, wrong-4, wrong-5}
 use Rattle.explaining_words.proofs.put_wrong.Statement.{statement}
 use Rattle.explaining_words.proofs.put_wrong.Tie as tie
@@ -20,22 +20,23 @@ words s = let a = s .args in wrongText (a .number) (a .place) (a .earlier) (a .x
 ended-so : (c : tie.At-match-keys1) → quoted "the newline is missing or not last" ≡ words (c .before .before)
 ended-so c = wrong-11 _ _ _ _ (c .match .keys1)
 
-number-so : (c : tie.At-match-keys2) → said (quoted "jack ") (c .before .before .args .x) (quoted ": not a plain decimal number of at most 64 bits") ≡ words (c .before .before)
+number-so : (c : tie.At-match-keys2) → let s = c .before .before in
+    said (quoted "jack ") (s .args .x) (quoted ": not a plain decimal number of at most 64 bits") ≡ words s
 number-so c = wrong-8 _ _ _ _ (c .match .keys2)
 
 size-so : (c : tie.At-match-keys3) → quoted "a pattern has 2 to 20 entries" ≡ words (c .before .before)
 size-so c = wrong-1 _ _ _ _ (c .match .keys3)
 
 outside-so : (c : tie.At-match-keys4) → let a = c .before .before .args in
-    atJack (a .place) (quoted ": its entry is none of the ports 1 to ") (a .x) ≡ words (c .before .before)
+    jackText (a .place) (quoted ": its entry is none of the ports 1 to ") (a .x) ≡ words (c .before .before)
 outside-so c = wrong-3 _ _ _ _ (c .match .keys4)
 
 repeated-so : (c : tie.At-match-keys5) → let a = c .before .before .args in
-    atJack (a .place) (quoted ": port ") (a .x) ++ (quoted " is already at jack " ++ digitsOf (a .earlier)) ≡ words (c .before .before)
+    jackText (a .place) (quoted ": port ") (a .x) ++ (quoted " is already at jack " ++ digitsOf (a .earlier)) ≡ words (c .before .before)
 repeated-so c = wrong-4 _ _ _ _ (c .match .keys5)
 
 own-so : (c : tie.At-match-rest) → let a = c .before .before .args in
-    atJack (a .place) (quoted ": port ") (a .place) ++ quoted " has the jack's own number" ≡ words (c .before .before)
+    jackText (a .place) (quoted ": port ") (a .place) ++ quoted " has the jack's own number" ≡ words (c .before .before)
 own-so c = let d = c .match .rest in wrong-5 _ _ _ _ (d .0 .0 .0 .0 .1, d .0 .0 .0 .1, d .0 .0 .1, d .0 .1, d .1)
 
 put-text-requires : tie.Need-put-text-requires
