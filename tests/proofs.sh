@@ -38,7 +38,7 @@ proofs_anew() {
 rt_checked() (
     prover_room || exit 1
     checking=''
-    trap '[ -z "$checking" ] || { kill -TERM -- "-$checking"; wait; sleep 1; } 2>/dev/null; rm -rf "$room"' EXIT
+    trap '[ -z "$checking" ] || { kill -TERM "-$checking"; wait; sleep 1; } 2>/dev/null; rm -rf "$room"' EXIT
     trap 'exit 130' INT
     trap 'exit 143' TERM HUP
     TMPDIR=$room setsid rt check &
