@@ -265,7 +265,7 @@ start_program() {
     exec ${emulator:+"$emulator"} "$tools/lib/ld-linux-x86-64.so.2" --library-path "$tools/lib" "$program"
 }
 
-# percent DONE OF: a whole number, of numbers of any length
+# percent DONE OF: a whole number, of numbers of any length, in $now. It is no command of its own: a signal that ended it would be told
 percent() {
     part=$1
     of=$2
@@ -273,7 +273,7 @@ percent() {
         of=${of%?}
         part=${part%?}
     done
-    echo $((${part:-0} * 100 / of))
+    now=$((${part:-0} * 100 / of))
 }
 
 # what the marks mean to whoever waits for them, and how far they are
@@ -286,7 +286,7 @@ announce() {
 }
 progress() {
     if [ "$words" = off ] || [ -t 1 ]; then return 0; fi
-    now=$(percent "$1" "$marks")
+    percent "$1" "$marks"
     if [ ! -t 2 ] && [ $((now / 10)) -eq $((shown / 10)) ]; then return 0; fi
     shown=$now
     say_again "$now %: $1 of $marks marks"

@@ -63,8 +63,8 @@ pub struct Level {
     pub over: u128,
 }
 
-/// Relation (2): 'for odd i all of A(i) over the list for n-1 and then B(i) over the list for n-2 reversed; for even i all of B(i) over the list for n-2, and
-/// then A(i) over the list for n-1 reversed. A list read backward has its parts in the opposite order and each shorter list read the other way round.'
+/// Relation (2) of document 000: for odd i all of A(i) over the list for n - 1, and then B(i) over the list for n - 2 reversed; for even i all of B(i) over the
+/// list for n - 2, and then A(i) over the list for n - 1 reversed. A list read backward has its parts in the opposite order, each shorter list turned.
 pub fn parts(n: usize, read: Read) -> Vec<Part> {
     let block = |i: u8| {
         let [first, second] = if i % 2 == 1 { [Way::A, Way::B] } else { [Way::B, Way::A] };
@@ -173,21 +173,21 @@ fn line(level: &Level) -> String {
     format!("level={ports} last={i} by={way:?} read={read} over={over}\n")
 }
 
-/// 'One line for each level met, from the number of ports n down to 3, and then the rank.'
+/// One line for each level met, from all ports down to 3, and then the rank.
 fn accepted(p: &[u8]) -> String {
     let levels = if p.len() <= MOST_LISTED { looked_up(p) } else { by_place(p) };
     let lines: String = levels.iter().map(line).collect();
     format!("{lines}rank={}\n", place(p))
 }
 
-/// 'A refusal prints three lines, and nothing else.'
+/// A refusal prints three lines, and nothing else.
 fn refused(number: u8, at: u64, words: &str) -> String {
     format!("refused={number}\nat={at}\n{words}\n")
 }
 
 /// The pattern that an input is, or what is printed of its refusal: 11 of the newline, 8 of the entries, then as a pattern is checked.
 fn judged(input: &[u8]) -> Result<Vec<u8>, String> {
-    // 'It judges the first 1,024 bytes of its input'
+    // the first 1,024 bytes of the input are judged
     let front = &input[..input.len().min(1024)];
     let end = front.iter().position(|&byte| byte == b'\n').filter(|end| end + 1 == front.len());
     let end = end.ok_or_else(|| refused(11, 0, "the newline is missing or not last"))?;

@@ -43,7 +43,7 @@ pub fn by_hand(compared: &mut Compared) {
     }
 }
 
-/// The levels of a pattern beside what else is known of them: 'with i the entry at the last jack n, by B if jack i holds port n, else by A'; the shortest
+/// The levels of a pattern beside what else is known of them: with i the entry at the last jack n, by B if jack i holds port n, else by A; the shortest
 /// pattern, from which the parts make this one; and the rank, to which the numbers passed over add up.
 fn holds(compared: &mut Compared, p: &[u8], levels: &[Level]) {
     let mut shorter = p.to_vec();

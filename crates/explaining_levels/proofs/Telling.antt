@@ -11,21 +11,27 @@ use mir.Syntax.{w64}
 use mir.Val.{Fits}
 use lib.ListN.{length, take}
 use lib.Seq.{length-take-le}
-use Rattle.listing.specs.Pattern.{Derangement}
-use Rattle.listing.specs.Steps.{letter}
+use Rattle.listing.specs.Pattern.{entry, Derangement}
+use Rattle.listing.specs.Steps.{shorter, back, letter}
 use Rattle.listing.specs.Rank.{rank}
+use Rattle.listing.specs.Reading.{comesFirst, passed}
 use Rattle.listing.specs.Limits.{mostPorts}
 use Rattle.listing.proofs.Limits.{count-most}
 use Rattle.listing.proofs.Ranks.{rank-below}
 use Rattle.listing_course.specs.InPlace.{WithInverse}
-use Rattle.listing_levels.specs.Levels.{levels, total}
+use Rattle.listing_course.proofs.Courses.{shorter-fewer}
+use Rattle.listing_levels.specs.Levels.{levelOf, levels, total}
 use Rattle.listing_levels.proofs.Levels.{levels-down, levels-none, levels-add-up, two-below}
 use Rattle.line_putting.specs.Putting.{Puts}
 use Rattle.line_putting.proofs.Putting.{Going, going-first, next-room, next-put, puts-as}
-use Rattle.pattern_ranks.specs.Levels.{levelIs, LevelOf}
+use Rattle.pattern_levels.specs.Levels.{letterOf, endOf, Peeled}
+use Rattle.pattern_levels.specs.declared.types.Came.{Came}
+use Rattle.pattern_levels.proofs.Came.{as-came}
+use Rattle.pattern_ranks.specs.Levels.{PlacedBy}
 use Rattle.pattern_ranks.specs.declared.types.Level.{Level}
 use Rattle.explaining.specs.Text.{levelText, levelsText, rankText, whyText, mostExplained}
 use Rattle.explaining.proofs.Longest.{why-fits}
+use Rattle.explaining_levels.specs.Levels.{levelIs}
 
 -- the arrays have a pattern of n ports and its inverse; `sum` was passed over on the way to it from p, whose lines for the levels so far are put
 pub record Telling (p old a b : List ℕ) (n : ℕ) (forward : Bool) (sum at : ℕ) (buf : List ℕ) : Type 0 where
@@ -63,20 +69,43 @@ telling-first n a b old two most la lb W room =
 
 module _ (p old a b : List ℕ) (n : ℕ) (forward : Bool) (sum at : ℕ) (buf : List ℕ) (T : Telling p old a b n forward sum at buf) where
   -- ---- a level more
-  module _ (l : Level) (c d : List ℕ) (three : 3 ≤ n) (L : LevelOf forward n (take n a) l c d) where
+  module _ (w : Came) (l : Level) (c d : List ℕ) (three : 3 ≤ n) (S : Peeled n (take n a) w c d) (P : PlacedBy forward n w l) where
+    -- the step that was taken back is the pattern's, so this is its level, and what is left is the shorter pattern
+    came : (letter n (take n a) ≡ letterOf w) × (entry (take n a) n ≡ endOf w)
+    came = as-came w (letter n (take n a)) (entry (take n a) n) (S .came)
+
+    told : levelIs n w l ≡ levelOf forward n (take n a)
+    told = λ k.
+        record {
+          ports = n;
+          last = sym (came .1) k;
+          by = sym (came .0) k;
+          forward = (P .read ∙ (λ j. comesFirst forward (sym (came .0) j) (sym (came .1) j))) k;
+          over = (P .over ∙ (λ j. passed forward (sym (came .0) j) n (sym (came .1) j))) k;
+        }
+
+    ports : l .ports ≡ shorter (letter n (take n a)) n
+    ports = P .left ∙ ap (λ x. shorter x n) (sym (came .0))
+
+    shown : take (l .ports) c ≡ back (letter n (take n a)) n (take n a)
+    shown = ap (λ x. take x c) (P .left) ∙ S .shown ∙ ap (λ x. back x n (take n a)) (sym (came .0))
+
+    pub fewer : l .ports < n
+    fewer = rw (P .left) (shorter-fewer (letterOf w) n (omega arith))
+
     -- it is the first of those that are left
-    next : levels forward n (take n a) ≡ levelIs n l ∷ levels (l .forward) (l .ports) (take (l .ports) c)
+    next : levels forward n (take n a) ≡ levelIs n w l ∷ levels (l .forward) (l .ports) (take (l .ports) c)
     next =
         levels-down forward n (take n a) three
-        ∙ (λ k. sym (L .told) k ∷ levels (sym (L .told) k .forward) (sym (L .ports) k) (sym (L .shown) k))
+        ∙ (λ k. sym told k ∷ levels (sym told k .forward) (sym ports k) (sym shown k))
 
     -- so its line comes first
     line : let more = levelsText (levels (l .forward) (l .ports) (take (l .ports) c)) ++ rankText (rank (length p) p) in
-        Going 0 (whyText p) old at (levelText (levelIs n l) ++ more) buf
+        Going 0 (whyText p) old at (levelText (levelIs n w l) ++ more) buf
     unfolding levelsText
     line =
         subst (λ x. Going 0 (whyText p) old at x buf)
-        (ap (λ ls. levelsText ls ++ rankText (rank (length p) p)) next ∙ append-assoc (levelText (levelIs n l)) _ (rankText (rank (length p) p)))
+        (ap (λ ls. levelsText ls ++ rankText (rank (length p) p)) next ∙ append-assoc (levelText (levelIs n w l)) _ (rankText (rank (length p) p)))
         (T .left)
 
     -- and what it passes over is added
@@ -84,25 +113,25 @@ module _ (p old a b : List ℕ) (n : ℕ) (forward : Bool) (sum at : ℕ) (buf :
     unfolding total
     added = omega (arith, ap total next, T .adds)
 
-    pub level-room : at + length (levelText (levelIs n l)) ≤ length buf
-    level-room = next-room (levelText (levelIs n l)) _ line
+    pub level-room : at + length (levelText (levelIs n w l)) ≤ length buf
+    level-room = next-room (levelText (levelIs n w l)) _ line
 
     pub sum-fits : Fits w64 (sum + l .passed)
     sum-fits = omega (arith, added, T .below)
 
-    pub telling-next : (after : ℕ) (rest : List ℕ) → Puts at (levelText (levelIs n l)) buf after rest
+    pub telling-next : (after : ℕ) (rest : List ℕ) → Puts at (levelText (levelIs n w l)) buf after rest
         → Telling p old c d (l .ports) (l .forward) (sum + l .passed) after rest
-    telling-next after rest P =
+    telling-next after rest Q =
         record {
-          two = rw (L .ports) (two-below n (take n a) three (T .arrays .pattern));
-          most = omega (arith, L .fewer, T .most);
-          long = L .long;
-          long-back = L .long-back;
-          arrays = L .arrays;
+          two = rw ports (two-below n (take n a) three (T .arrays .pattern));
+          most = omega (arith, fewer, T .most);
+          long = S .long;
+          long-back = S .long-back;
+          arrays = rw (P .left) (S .arrays);
           below = T .below;
           short = T .short;
           adds = added;
-          left = next-put (levelText (levelIs n l)) _ line P;
+          left = next-put (levelText (levelIs n w l)) _ line Q;
         }
 
   -- ---- none is left

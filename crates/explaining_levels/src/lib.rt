@@ -1,9 +1,10 @@
 // Why a pattern has its rank, written: a line for each of its levels, and then the rank.
 use line_putting::put_number;
 use line_putting::put_text;
+use pattern_levels::peeling::peel;
 use pattern_levels::telling::block_of;
 use pattern_levels::types::Came;
-use pattern_ranks::ranking::level;
+use pattern_ranks::ranking::placed_by;
 use pattern_ranks::types::Level;
 use words::limits::LONGEST;
 ghost use mathlib.Core.Path.{_≡_};
@@ -14,8 +15,8 @@ ghost use Rattle.listing.specs.Limits.{mostPorts};
 ghost use Rattle.listing_course.specs.InPlace.{WithInverse};
 ghost use Rattle.line_putting.specs.Putting.{Puts};
 ghost use Rattle.pattern_levels.specs.Levels.{letterOf};
-ghost use Rattle.pattern_ranks.specs.Levels.{levelIs};
 ghost use Rattle.explaining.specs.Text.{byText, readText, levelText, rankText, whyText, mostExplained};
+ghost use Rattle.explaining_levels.specs.Levels.{levelIs};
 
 // The fewest ports of a level that is told.
 const LEAST_LEVEL: u8 = 3;
@@ -43,14 +44,13 @@ fn put_read(forward: bool, at: usize, buf: &mut [u8]) -> usize
 }
 
 // The line of a level.
-fn put_level(n: u8, l: Level, from: usize, buf: &mut [u8]) -> usize
-    requires { ⌜ from + length (levelText (levelIs n l)) ≤ length (now buf) ⌝ }
-    ensures { λ r. ⌜ Puts from (levelText (levelIs n l)) (now (buf .entry)) r (now (buf .exit)) ⌝ }
+fn put_level(n: u8, c: Came, l: Level, from: usize, buf: &mut [u8]) -> usize
+    requires { ⌜ from + length (levelText (levelIs n c l)) ≤ length (now buf) ⌝ }
+    ensures { λ r. ⌜ Puts from (levelText (levelIs n c l)) (now (buf .entry)) r (now (buf .exit)) ⌝ }
 {
-    let came = l.came;
     let last = put_number(b"level=", n as u64, from, buf);
-    let by = put_number(b" last=", block_of(came) as u64, last, buf);
-    let read = put_by(came, by, buf);
+    let by = put_number(b" last=", block_of(c) as u64, last, buf);
+    let read = put_by(c, by, buf);
     let over = put_read(l.forward, read, buf);
     let end = put_number(b" over=", l.passed, over, buf);
     put_text(b"\n", end, buf)
@@ -83,8 +83,9 @@ pub fn put_why(
     let mut rank: u64 = 0;
     let mut at: usize = 0;
     while LEAST_LEVEL <= n {
-        let l = level(forward, copy, inverse, n);
-        at = put_level(n, l, at, buf);
+        let c = peel(copy, inverse, n);
+        let l = placed_by(forward, n, c);
+        at = put_level(n, c, l, at, buf);
         rank += l.passed;
         forward = l.forward;
         n = l.ports;

@@ -1,6 +1,6 @@
 -- One level of a pattern's place: what is passed over, the place of the shorter pattern, and that the sum fits 64 bits.
 -- Assumes nothing.
-use mathlib.Core.Path.{_≡_, refl, sym, ap, _∙_}
+use mathlib.Core.Path.{_≡_, refl, _∙_}
 use mathlib.Core.Logic.{_≢_}
 use mathlib.Core.Bool.{Bool, true, false, cond}
 use mathlib.Core.List.{List}
@@ -24,7 +24,7 @@ use Rattle.pattern_levels.specs.Levels.{cameOf, letterOf, endOf, Peeled}
 use Rattle.pattern_levels.specs.declared.types.Came.{Came}
 use Rattle.listing_course.proofs.Courses.{shorter-fewer}
 use Rattle.pattern_levels.proofs.Came.{as-came, two-jacks}
-use Rattle.pattern_ranks.specs.Levels.{LevelOf, Placing}
+use Rattle.pattern_ranks.specs.Levels.{PlacedBy, LevelOf, Placing}
 use Rattle.pattern_ranks.specs.declared.types.Level.{Level}
 
 -- ---- what is passed over
@@ -71,30 +71,16 @@ place-level forward {n = suc (suc m)} {p = p} {c = c} h D e =
     rw (← a .0, ← a .1) (rank-read forward m p (letter n p) D refl)
 
 -- so the level that code computes is that of the law
-pub level-of : {forward : Bool} {n : ℕ} {t a b : List ℕ} {c : Came} (l : Level) → 2 ≤ n → Derangement n t → Peeled n t c a b → l .came ≡ c
-    → l .passed ≡ passed forward (letterOf c) n (endOf c) → l .forward ≡ comesFirst forward (letterOf c) (endOf c) → l .ports ≡ shorter (letterOf c) n
-    → LevelOf forward n t l a b
-level-of {forward = forward} {n = n} {t = t} {a = a} {c = c} l h D s ec ex ef ek =
-    let came = as-came c (letter n t) (entry t n) (s .came) in
-    let by = sym (came .0) in
-    let last = sym (came .1) in
-    let ports : l .ports ≡ shorter (letter n t) n = ek ∙ ap (λ w. shorter w n) by in
+pub level-of : {forward : Bool} {n : ℕ} {t a b : List ℕ} {c : Came} (l : Level) → 2 ≤ n → Derangement n t → Peeled n t c a b
+    → PlacedBy forward n c l → LevelOf forward n t l a b
+level-of {forward = forward} {n = n} {c = c} l h D s P =
+    let ek = P .left in
     record {
-      told = λ k.
-          record {
-            ports = n;
-            last = (ap endOf ec ∙ last) k;
-            by = (ap letterOf ec ∙ by) k;
-            forward = (ef ∙ (λ j. comesFirst forward (by j) (last j))) k;
-            over = (ex ∙ (λ j. passed forward (by j) n (last j))) k;
-          };
-      ports = ports;
-      shown = ap (λ x. take x a) ek ∙ s .shown ∙ ap (λ w. back w n t) by;
       fewer = rw ek (shorter-fewer (letterOf c) n h);
       long = s .long;
       long-back = s .long-back;
       arrays = rw ek (s .arrays);
-      place = rw (← ex, ← ef, ← s .shown, ← ek) at (place-level forward h D (s .came));
+      place = rw (← P .over, ← P .read, ← s .shown, ← ek) at (place-level forward h D (s .came));
     }
 
 -- what a level asks of the arrays of a pattern that is to be placed

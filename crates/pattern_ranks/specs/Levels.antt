@@ -6,25 +6,25 @@ use mathlib.Core.Bool.{Bool}
 use mathlib.Core.List.{List}
 use lib.ListN.{length, take}
 use Rattle.listing.specs.Count.{count}
-use Rattle.listing.specs.Steps.{shorter, back, letter}
+use Rattle.listing.specs.Steps.{shorter}
 use Rattle.listing.specs.Rank.{turned, rank}
+use Rattle.listing.specs.Reading.{comesFirst, passed}
 use Rattle.listing.specs.Limits.{mostPorts, largest64}
 use Rattle.listing_course.specs.InPlace.{WithInverse}
-use Rattle.listing_levels.specs.Levels.{levelOf}
-use Rattle.listing_levels.specs.Levels as listed
 use Rattle.pattern_levels.specs.Levels.{letterOf, endOf}
+use Rattle.pattern_levels.specs.declared.types.Came.{Came}
 use Rattle.pattern_ranks.specs.declared.types.Level.{Level}
 
--- a level of n ports, as the laws have it
-abbrev pub levelIs : ℕ → Level → listed.Level
-levelIs n l = record { ports = n; last = endOf (l .came); by = letterOf (l .came); forward = l .forward; over = l .passed }
+-- what a step that a pattern of n ports came by tells of its place, in the list read forward or backward: how many are passed over, how the shorter list is
+-- read there, and how many ports the shorter pattern has
+pub record PlacedBy (forward : Bool) (n : ℕ) (c : Came) (l : Level) : Type 0 where
+  pub over : l .passed ≡ passed forward (letterOf c) n (endOf c)
+  pub read : l .forward ≡ comesFirst forward (letterOf c) (endOf c)
+  pub left : l .ports ≡ shorter (letterOf c) n
 
--- one level of the place of t in the list, read forward or backward ('by turns', the paper, 'The list'): l is the level of t; the shorter pattern, with fewer
--- ports, is in the arrays a and b; and the place of t is what is passed over and the place of that pattern in its list, read forward or backward
+-- one level of the place of t in the list, read forward or backward ('by turns', the paper, 'The list'): a pattern with fewer ports, in the arrays a and b, and
+-- the place of t is what is passed over and the place of that pattern in its list, read forward or backward
 pub record LevelOf (forward : Bool) (n : ℕ) (t : List ℕ) (l : Level) (a b : List ℕ) : Type 0 where
-  pub told : levelIs n l ≡ levelOf forward n t
-  pub ports : l .ports ≡ shorter (letter n t) n
-  pub shown : take (l .ports) a ≡ back (letter n t) n t
   pub fewer : l .ports < n
   pub long : length a ≡ mostPorts
   pub long-back : length b ≡ mostPorts

@@ -20,7 +20,7 @@ ghost use Rattle.listing.specs.Limits.{mostPorts};
 ghost use Rattle.pattern_steps.specs.Blocks.{partOf};
 ghost use Rattle.listing_course.specs.InPlace.{WithInverse};
 ghost use Rattle.pattern_levels.specs.Levels.{letterOf, endOf};
-ghost use Rattle.pattern_ranks.specs.Levels.{LevelOf, Placing};
+ghost use Rattle.pattern_ranks.specs.Levels.{PlacedBy, LevelOf, Placing};
 
 // How many blocks come before block i, in the list read forward or backward.
 fn blocks_before(forward: bool, n: u8, i: u8) -> u8
@@ -53,18 +53,25 @@ fn passed_over(forward: bool, n: u8, c: Came) -> u64
     blocks * (parts.0 + parts.1) + first_part(forward, parts, c)
 }
 
-// One level of the place of the pattern in p, whose inverse is in q, in the list read forward or backward. The shorter pattern is left there.
-pub fn level(forward: bool, p: &mut [u8; LONGEST], q: &mut [u8; LONGEST], n: u8) -> Level
-    requires { ⌜ (length (now p) ≡ mostPorts) × (length (now q) ≡ mostPorts) × (2 ≤ n) × (n ≤ mostPorts) × WithInverse n (now p) (now q) ⌝ }
-    ensures { λ r. ⌜ LevelOf forward n (take n (now (p .entry))) r (now (p .exit)) (now (q .exit)) ⌝ }
+// What the step that a pattern of n ports came by tells of its place, in the list read forward or backward.
+pub fn placed_by(forward: bool, n: u8, c: Came) -> Level
+    requires { ⌜ (2 ≤ n) × (n ≤ mostPorts) × Among (n - 1) (endOf c) ⌝ }
+    ensures { λ r. ⌜ PlacedBy forward n c r ⌝ }
 {
-    let c = peel(p, q, n);
     Level {
-        came: c,
         passed: passed_over(forward, n, c),
         forward: comes_first(forward, c),
         ports: ports_below(c, n),
     }
+}
+
+// One level of the place of the pattern in p, whose inverse is in q, in the list read forward or backward. The shorter pattern is left there.
+fn level(forward: bool, p: &mut [u8; LONGEST], q: &mut [u8; LONGEST], n: u8) -> Level
+    requires { ⌜ (length (now p) ≡ mostPorts) × (length (now q) ≡ mostPorts) × (2 ≤ n) × (n ≤ mostPorts) × WithInverse n (now p) (now q) ⌝ }
+    ensures { λ r. ⌜ LevelOf forward n (take n (now (p .entry))) r (now (p .exit)) (now (q .exit)) ⌝ }
+{
+    let c = peel(p, q, n);
+    placed_by(forward, n, c)
 }
 
 // The place of the pattern in p in the list, which is its rank, after so many that were passed over.

@@ -31,10 +31,11 @@ use Rattle.text_entries.proofs.Back.{entries-text}
 use Rattle.text_entries.proofs.Patterns.{pattern-ports, bytes-back}
 use Rattle.pattern_check.specs.Calls.{inSize, sized}
 use Rattle.pattern_check.proofs.Calls.{size-within}
-use Rattle.translating.specs.Names.{Named, byRank, byNumber, byPattern, rankKey, numberKey, patternKey, namesText, mostNames}
+use Rattle.translating.specs.Names.{Named, names, byRank, byNumber, byPattern, rankKey, numberKey, patternKey, namesText, mostNames}
 use Rattle.translating.specs.Lines.{portsKey, mostLine, numbered, namedOf, Went, SoFar, portsOf, keyedOf, lineOf}
 use Rattle.translating.proofs.Names.{Names, rank-names, number-names, pattern-names}
 use Rattle.translating.proofs.Longest.{entries-50, entries-full, names-109}
+use Rattle.translating.proofs.Lines.{pattern-line}
 
 -- ---- parts of a line
 
@@ -185,6 +186,10 @@ module _ (n : ℕ) (known : SoFar n) (t : List ℕ) (w : Went) (e : lineOf n t �
 pub full-58 : (p : List ℕ) → Derangement mostPorts p → length (patternKey ++ entriesText p) ≡ mostLine
 full-58 p D = omega (arith, length-append patternKey (entriesText p), entries-full mostPorts p D refl)
 
--- and there is one
+-- and there is one, which is good
 pub met-58 : (p : List ℕ) × Derangement mostPorts p × (length (patternKey ++ entriesText p) ≡ mostLine)
-met-58 = let D = at-derangement mostPorts 0 (omega (arith, count-20)) in (at mostPorts 0, D, full-58 (at mostPorts 0) D)
+    × (lineOf mostPorts (patternKey ++ entriesText p) ≡ accepted (record { ports = mostPorts; text = namesText (names mostPorts p) }))
+met-58 =
+    let p = at mostPorts 0 in
+    let D = at-derangement mostPorts 0 (omega (arith, count-20)) in
+    (p, D, full-58 p D, pattern-line mostPorts (omega arith) (omega arith) p D)

@@ -9,8 +9,8 @@ use Rattle.text_numbers.specs.Decimal.{digitsOf}
 use Rattle.line_putting.specs.Putting.{Puts}
 use Rattle.line_putting.proofs.Putting.{Going, going-first, next-room, next-put, puts-as}
 use Rattle.line_refusal.specs.Words.{quoted}
-use Rattle.pattern_ranks.specs.Levels.{levelIs}
 use Rattle.explaining.specs.Text.{byText, readText, ended, levelText}
+use Rattle.explaining_levels.specs.Levels.{levelIs}
 use Rattle.explaining_levels.proofs.put_level.Statement.{statement}
 use Rattle.explaining_levels.proofs.put_level.Tie as tie
 
@@ -26,7 +26,7 @@ over l = quoted " over=" ++ digitsOf (l .over)
 
 -- the level, and what is left of its line
 abbrev level : tie.Start → Level
-level s = levelIs (s .args .n) (s .args .l)
+level s = levelIs (s .args .n) (s .args .c) (s .args .l)
 
 abbrev Left : tie.Start → ℕ → List ℕ → List ℕ → Type 0
 Left s at rest buf = Going (s .args .from) (levelText (level s)) (s .args .buf .now) at rest buf

@@ -4,7 +4,8 @@
 use native.Mathlib.Omega.{arith}
 use lib.ListN.{take}
 use borrow.Author.Needs.{needs}
-use Rattle.explaining_levels.proofs.Telling.{Telling, telling-first, level-room, sum-fits, telling-next, rank-room, rank-put}
+use Rattle.pattern_levels.proofs.Came.{end-among}
+use Rattle.explaining_levels.proofs.Telling.{Telling, telling-first, fewer, level-room, sum-fits, telling-next, rank-room, rank-put}
 use Rattle.explaining_levels.proofs.put_why.Statement.{statement}
 use Rattle.explaining_levels.proofs.put_why.Tie as tie
 
@@ -18,30 +19,43 @@ abbrev μ-loop : tie.MeasureT-loop
 loop-holds : tie.Need-loop-holds Inv-loop μ-loop
 loop-holds c = let s = c .before in let h = s .pre in telling-first _ _ _ _ (h .2) (h .3) (h .0) (h .1) (h .4) (h .5)
 
-level-requires : tie.Need-level-requires Inv-loop μ-loop
-level-requires c κs = let T = c .before .before .before .loop .inv in (T .long, T .long-back, T .two, T .most, T .arrays)
+peel-requires : tie.Need-peel-requires Inv-loop μ-loop
+peel-requires c κs = let T = c .before .before .before .loop .inv in (T .long, T .long-back, T .two, T .most, T .arrays)
+
+placed-by-requires : tie.Need-placed-by-requires Inv-loop μ-loop
+placed-by-requires c κs =
+    let T = c .before .before .before .before .loop .inv in
+    (T .two, T .most, end-among (T .two) (T .arrays .pattern) (c .peel .ensures .came))
 
 put-level-requires : tie.Need-put-level-requires Inv-loop μ-loop
 put-level-requires c κs =
     let l = c .before in
-    let t = l .before .before .before in
-    level-room _ _ _ _ _ _ _ _ _ (t .before .loop .inv) _ _ _ (omega (arith, t .loop-test .taken)) (l .level .ensures)
+    let p = l .before in
+    let t = p .before .before .before in
+    level-room _ _ _ _ _ _ _ _ _ (t .before .loop .inv) _ _ _ _ (omega (arith, t .loop-test .taken)) (p .peel .ensures) (l .placed-by .ensures)
 
 add-rank : tie.Need-add-rank Inv-loop μ-loop
 add-rank c =
     let l = c .before .before .before .before .before in
-    let t = l .before .before .before in
-    sum-fits _ _ _ _ _ _ _ _ _ (t .before .loop .inv) _ _ _ (omega (arith, t .loop-test .taken)) (l .level .ensures)
+    let p = l .before in
+    let t = p .before .before .before in
+    sum-fits _ _ _ _ _ _ _ _ _ (t .before .loop .inv) _ _ _ _ (omega (arith, t .loop-test .taken)) (p .peel .ensures) (l .placed-by .ensures)
 
 loop-less : tie.Need-loop-less Inv-loop μ-loop
-loop-less c = let l = c .before .before .before .before .before in l .level .ensures .fewer
+loop-less c =
+    let l = c .before .before .before .before .before in
+    let p = l .before in
+    let t = p .before .before .before in
+    fewer _ _ _ _ _ _ _ _ _ (t .before .loop .inv) _ _ _ _ (omega (arith, t .loop-test .taken)) (p .peel .ensures) (l .placed-by .ensures)
 
 loop-again : tie.Need-loop-again Inv-loop μ-loop
 loop-again c =
-    let p = c .before .before .before in
-    let l = p .before .before in
-    let t = l .before .before .before in
-    telling-next _ _ _ _ _ _ _ _ _ (t .before .loop .inv) _ _ _ (omega (arith, t .loop-test .taken)) (l .level .ensures) _ _ (p .put-level .ensures)
+    let q = c .before .before .before in
+    let l = q .before .before in
+    let p = l .before in
+    let t = p .before .before .before in
+    telling-next _ _ _ _ _ _ _ _ _ (t .before .loop .inv) _ _ _ _ (omega (arith, t .loop-test .taken)) (p .peel .ensures) (l .placed-by .ensures) _ _
+    (q .put-level .ensures)
 
 put-rank-requires : tie.Need-put-rank-requires Inv-loop μ-loop
 put-rank-requires c κs = let t = c .before in rank-room _ _ _ _ _ _ _ _ _ (t .before .loop .inv) (omega (arith, t .loop-test .left))
@@ -62,7 +76,8 @@ put-why-spec =
     Inv-loop
     μ-loop
     loop-holds
-    level-requires
+    peel-requires
+    placed-by-requires
     put-level-requires
     add-rank
     loop-less
