@@ -2,24 +2,10 @@
 # of patterns and of inputs with each fault. With no reference: the steps A and B that it names rebuild the pattern, and the numbers passed over add up to the
 # rank. The page for new colleagues shows what is printed. How the command ends otherwise, and its words on standard error, are in commands.sh.
 type reference_library >/dev/null 2>&1 || . "$root/tests/reference/build.sh"
+. "$root/tests/commands/each.sh"
 levels_out=$root/target/levels
 rm -rf "$levels_out"
 mkdir -p "$levels_out/found"
-
-# levels_each NAME..: what the command prints of each input, and its status, in found/NAME: as bin/explain does it, but that the program is looked up once
-levels_each() (
-    eval "$(grep -E '^(name|what|asked|own_options)=' "$root/bin/explain")"
-    after_build=$(sed '1,/^build$/d' "$root/bin/explain")
-    usage() { :; }
-    own_option() { return 1; }
-    . "$root/commands/way.sh"
-    options --quiet
-    build
-    for text; do
-        (trap leave EXIT && file=texts/$text && eval "$after_build") >"found/$text" 2>&1
-        echo "status=$?" >>"found/$text"
-    done
-)
 
 # levels_different: `NAME what is different` of each input of which something else is printed than the reference prints, or than is known of it: a pattern is
 # explained, and a fault meets its refusal at its jack, which the words name
@@ -40,7 +26,7 @@ levels_different() {
 
 # ---- each input by the reference and by what is known of it, group by group; each refusal is met at each place that its fault can have
 levels_groups() {
-    levels_each $(cut -d ' ' -f 1 list)
+    command_each explain found $(cut -d ' ' -f 1 list | sed 's|^|texts/|')
     levels_different >different
     awk '
         FILENAME == "different" { name = $1; sub(/^[^ ]* /, ""); said[name] = said[name] "; " $0; next }
@@ -173,15 +159,10 @@ levels_command() {
 
 # ---- the page for new colleagues: its examples, the beginning of the list for 5 ports, how many patterns there are, its refusals
 
-# page_shows FILE: the page has the lines of a file, one after the other, as it has examples
-page_shows() {
-    [ -s "$1" ] || return 1
-    awk 'NR == FNR { want = want "    " $0 "\n"; next } { page = page $0 "\n" } END { exit !index("\n" page, "\n" want) }' "$1" "$root/docs/RANKS.md"
-}
 levels_page() {
     echo 5,4,2,3,1 | bin/explain --words >printed 2>said
     echo 7,8,4,6,1,3,5,2 | bin/explain >longer
-    if page_shows printed && page_shows said && page_shows longer; then
+    if page_shows RANKS printed && page_shows RANKS said && page_shows RANKS longer; then
         pass 'levels: docs/RANKS.md shows what is printed of 5,4,2,3,1 and of 7,8,4,6,1,3,5,2, and what is said of the first'
     else
         fail 'levels: docs/RANKS.md shows something else than is printed of its patterns, or said'
@@ -229,7 +210,7 @@ levels_page() {
         fail 'levels: docs/RANKS.md has other refusals, or other words'
     fi
     echo 2,3,2 | bin/explain >printed
-    page_shows printed && pass 'levels: docs/RANKS.md shows what is printed of 2,3,2' || fail 'levels: docs/RANKS.md shows something else of 2,3,2'
+    page_shows RANKS printed && pass 'levels: docs/RANKS.md shows what is printed of 2,3,2' || fail 'levels: docs/RANKS.md shows something else of 2,3,2'
 }
 
 if ! echo 2,1 | bin/explain --quiet >/dev/null; then

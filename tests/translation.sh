@@ -3,9 +3,10 @@
 # short one, and what is translated is printed while more is waited for; the page for labs shows what is printed. How the command ends otherwise, and its words,
 # are in commands.sh.
 type reference_library >/dev/null 2>&1 || . "$root/tests/reference/build.sh"
+. "$root/tests/commands/each.sh"
 translation_out=$root/target/translation
 rm -rf "$translation_out"
-mkdir -p "$translation_out/texts"
+mkdir -p "$translation_out/texts" "$translation_out/each"
 
 # translation_wanted TEXT: what the reference prints of a text, and its status on a last line
 translation_wanted() {
@@ -27,35 +28,21 @@ translation_same() {
     fi
 }
 
-# translation_each TEXT..: what the command prints of each text, and its status, in TEXT.found: as bin/translate does it, but that the program is looked up once
-translation_each() (
-    eval "$(grep -E '^(name|what|asked|own_options)=' "$root/bin/translate")"
-    usage() { :; }
-    own_option() { return 1; }
-    . "$root/commands/way.sh"
-    options --quiet
-    build
-    for text; do
-        (trap leave EXIT && file=$text && stream && run && finish) >"$text.found" 2>&1
-        echo "status=$?" >>"$text.found"
-    done
-)
-
 # ---- texts: every pattern of 2 to 6 ports; by chance; damaged, each by the reference and by what is known of it
 translation_texts() {
     translation_same 'every rank, number and pattern of 2 to 6 ports' texts/every bin/translate texts/every
     translation_same '6,000 ranks, numbers and patterns of 7 to 20 ports by chance, with changes of ports between' texts/chance bin/translate texts/chance
-    translation_each $(cut -d ' ' -f 1 texts/list | sed 's|^|texts/|')
+    command_each translate each $(cut -d ' ' -f 1 texts/list | sed 's|^|texts/|')
     while read -r text number line what; do
         translation_wanted "texts/$text" >wanted
-        cmp -s wanted "texts/$text.found" || echo "$what: something else than the reference prints"
+        cmp -s wanted "each/$text" || echo "$what: something else than the reference prints"
     done <texts/list >different
     awk '
         {
             known = $2 == 0 ? "status=0" : "refused=" $2 " at=" $3 " status=65"
             before = last = found = ""
-            while ((getline line < ("texts/" $1 ".found")) > 0) { before = last; last = found; found = line }
-            close("texts/" $1 ".found")
+            while ((getline line < ("each/" $1)) > 0) { before = last; last = found; found = line }
+            close("each/" $1)
             if ($2 > 0) found = before " " last " " found
             if (found != known) print $0 ": " found
             met[$2, $4] = 1
@@ -186,15 +173,10 @@ FIRST
 
 # ---- the page for labs: its example and what is printed of it, the patterns of 4 ports, its commands, its script
 
-# shown FILE: the page has the lines of a file, one after the other, as it has examples
-shown() {
-    [ -s "$1" ] || return 1
-    awk 'NR == FNR { want = want "    " $0 "\n"; next } { page = page $0 "\n" } END { exit !index("\n" page, "\n" want) }' "$1" "$root/docs/NUMBERS.md"
-}
 translation_page() {
     translation_same 'examples/lab/numbers' "$root/examples/lab/numbers" bin/translate "$root/examples/lab/numbers"
     sed '$d' found >printed
-    if shown "$root/examples/lab/numbers" && shown printed; then
+    if page_shows NUMBERS "$root/examples/lab/numbers" && page_shows NUMBERS printed; then
         pass 'translation: docs/NUMBERS.md shows examples/lab/numbers, and what is printed of it'
     else
         fail 'translation: docs/NUMBERS.md shows another text than examples/lab/numbers, or prints something else of it'
@@ -227,7 +209,7 @@ translation_page() {
         fail 'translation: the script of docs/NUMBERS.md does something else'
     fi
     bin/translate --words desk/refused >printed 2>said
-    if [ $? -eq 65 ] && shown printed && shown said && grep -qF 'Of the lines `ports=5`, `rank=9` and `pattern=5,3,2,1,3`:' "$root/docs/NUMBERS.md"; then
+    if [ $? -eq 65 ] && page_shows NUMBERS printed && page_shows NUMBERS said && grep -qF 'Of the lines `ports=5`, `rank=9` and `pattern=5,3,2,1,3`:' "$root/docs/NUMBERS.md"; then
         pass 'translation: a refused line of docs/NUMBERS.md is printed, and said in words, as it shows'
     else
         cat printed said

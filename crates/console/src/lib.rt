@@ -101,12 +101,17 @@ pub fn tell_earlier(place: Place) {
     tell_number(b"earlier=", earlier_number(place) as u64);
 }
 
-// A refusal told to the command: its number, its place and its second number.
+// A refusal told to the command: its number and its place.
+fn tell_refused(reason: Reason, place: u64) {
+    tell_number(b"refused=", reason_number(reason) as u64);
+    tell_number(b"at=", place);
+}
+
+// The same at its own place, with its second number.
 pub fn tell_refusal(f: Refusal) {
     let reason = f.reason;
     let place = f.place;
-    tell_number(b"refused=", reason_number(reason) as u64);
-    tell_number(b"at=", place_number(place) as u64);
+    tell_refused(reason, place_number(place) as u64);
     tell_earlier(place);
 }
 
@@ -117,7 +122,7 @@ pub fn refused_at(name: &[u8], reason: Reason, place: u64) -> bool {
     let n = text.len;
     let lines = &bytes[..n];
     if written(name, lines) {
-        tell(lines);
+        tell_refused(reason, place);
         return true;
     }
     false

@@ -14,14 +14,16 @@ use Rattle.listing.specs.Limits.{mostPorts, largest64}
 use Rattle.listing.proofs.Numbers.{of-test}
 use Rattle.listing_levels.specs.Levels.{levels}
 use Rattle.listing_levels.proofs.Levels.{levels-follow, only-levels, levels-add-up, levels-rebuild}
-use Rattle.words.specs.Told.{nowhere, Told, accepted, refused, then}
+use Rattle.words.specs.Told.{nowhere, accepted, then}
 use Rattle.words.proofs.Told.{each-accepted, each-then}
 use Rattle.text_keys.specs.Parts.{newline, cut}
-use Rattle.text_entries.specs.Entries.{oneLine, entriesText, entriesIn, fewEntries, entriesOf, badEntry}
+use Rattle.text_entries.specs.Entries.{oneLine, entriesText, entriesIn, fewEntries, entriesOf}
 use Rattle.text_entries.proofs.Patterns.{entries-line, pattern-read}
 use Rattle.pattern_check.specs.Calls.{checkOf}
-use Rattle.pattern_check.proofs.Accepted.{accepted-pattern, pattern-accepted}
-use Rattle.explaining.specs.Text.{levelsText, rankText, whyText, toldText, namedIn, patternText, lineText, explained, explainOf}
+use Rattle.pattern_check.proofs.Accepted.{accepted-pattern}
+use Rattle.pattern_check.proofs.Accepted as check
+use Rattle.explaining.specs.Text.{levelsText, rankText, whyText, explained, explainOf}
+use Rattle.explaining.proofs.Steps.{pattern-refused, pattern-accepted, line-refused, line-accepted, text-refused, text-accepted}
 use Rattle.demands.specs.One.{Listed, Refuses}
 use Rattle.demands.specs.Ranks.{Reads, Explains, WhyThatRank}
 use Rattle.demands.proofs.Numbers.{from-refused, from-need}
@@ -39,41 +41,22 @@ explains n p D = record {
   rebuilds = λ two. levels-rebuild n true p two D;
 }
 
-module _ (t line : List ℕ) (one : oneLine t ≡ accepted line) where
-  -- what is printed is what is printed of the line
-  of-line : explained t ≡ lineText line
-  unfolding explained
-  of-line = ap (λ told. toldText told (λ k j. 0) lineText) one
-
-  module _ (p : List ℕ) (entries : entriesOf line ≡ accepted p) where
-    of-entries : explained t ≡ patternText p
-    unfolding lineText
-    of-entries = of-line ∙ ap (λ told. toldText told (λ k j. badEntry largest64 line) patternText) entries
-
-    -- where they are a pattern, why it has its rank; else the refusal
-    of-pattern : (told : Told (Unit {0})) → checkOf mostPorts p ≡ told → explained t ≡ toldText told (namedIn p) (λ ok. whyText p)
-    unfolding patternText
-    of-pattern told e = of-entries ∙ ap (λ x. toldText x (namedIn p) (λ ok. whyText p)) e
-
-    judged : explainOf t ≡ checkOf mostPorts p
-    unfolding explainOf
-    judged = ap (λ told. then told (λ l. then (entriesOf l) (checkOf mostPorts))) one ∙ ap (λ told. then told (checkOf mostPorts)) entries
-
 prints : (t p : List ℕ) → Reads t p
     → Derangement (length p) p × (explained t ≡ levelsText (levels true (length p) p) ++ rankText (rank (length p) p)) × (explainOf t ≡ accepted tt)
 unfolding whyText
-prints t p R = (
-  accepted-pattern mostPorts p (sym (R .sound)) .is,
-  of-pattern t (R .line) (R .one) p (R .entries) (accepted tt) (R .sound),
-  judged t (R .line) (R .one) p (R .entries) ∙ R .sound,
-)
+prints t p R =
+    let line = text-accepted t (R .line) (sym (R .one)) in (
+      accepted-pattern mostPorts p (sym (R .sound)) .is,
+      sym (pattern-accepted p (sym (R .sound)) ∙ line-accepted (R .line) p (sym (R .entries)) ∙ line .1),
+      sym (line .0) ∙ ap (λ told. then told (checkOf mostPorts)) (R .entries) ∙ R .sound,
+    )
 
 asked : (p : List ℕ) → 2 ≤ length p → length p ≤ mostPorts → Derangement (length p) p → Reads (entriesText p ++ (newline ∷ [])) p
 asked p low high D = record {
   line = entriesText p;
   one = entries-line p;
   entries = pattern-read (length p) p D (omega arith) high;
-  sound = sym (pattern-accepted mostPorts p (record { low = low; high = high; is = D }));
+  sound = sym (check.pattern-accepted mostPorts p (record { low = low; high = high; is = D }));
 }
 
 -- the numbers: 11, then 8 and 1, then those of the check
@@ -97,13 +80,13 @@ text-numbers t =
     (λ line. each-then (Listed ofText) _ _ (entries-numbers line) (λ p k s e. let h = demand-one .check p k s e in (inr (inr (h .0)), h .1)))
 
 pub why-that-rank : WhyThatRank
-unfolding explained lineText
 why-that-rank = record {
   explains = explains;
   prints = prints;
   asked = asked;
-  unlined = λ t k s e. ap (λ told. toldText told (λ k j. 0) lineText) e;
-  unread = λ t line k s one e. of-line t line one ∙ ap (λ told. toldText told (λ k j. badEntry largest64 line) patternText) e;
-  unsound = λ t line p k s one entries e. of-pattern t line one p entries (refused k s) e;
+  unlined = λ t k s e. sym (text-refused t k s (sym e) .1);
+  unread = λ t line k s one e. sym (line-refused line k s _ refl (sym e) ∙ text-accepted t line (sym one) .1);
+  unsound = λ t line p k s one entries e.
+      sym (pattern-refused p k s _ _ (sym e) refl refl ∙ line-accepted line p (sym entries) ∙ text-accepted t line (sym one) .1);
   refusals = text-numbers;
 }

@@ -20,7 +20,7 @@ use Rattle.listing.proofs.Ranks.{rank-below}
 use Rattle.listing.proofs.Reading.{rank-read}
 use Rattle.listing_course.proofs.Courses.{shorter-fewer}
 use Rattle.listing_levels.specs.Levels.{Level, levelOf, levels}
-use Rattle.listing_levels.proofs.Levels.{levels-first, levels-none, levels-next}
+use Rattle.listing_levels.proofs.Levels.{levels-first, levels-none, levels-down}
 use Rattle.text_numbers.specs.Decimal.{digitsOf}
 use Rattle.text_numbers.proofs.Lengths.{digits-at-most, digits-64}
 use Rattle.text_keys.specs.Parts.{newline}
@@ -104,7 +104,7 @@ levels-60 =
     let l = levelOf forward n p in
     let t = back (letter n p) n p in
     let fewer = shorter-fewer (letter n p) n (omega arith) in
-    rw (levels-next forward m p (letter n p) refl)
+    rw (levels-down forward n p (omega arith))
     (omega (
       arith,
       length-append (levelText l) (levelsText (levels (l .forward) (shorter (letter n p) n) t)),

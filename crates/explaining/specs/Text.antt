@@ -14,6 +14,7 @@ use Rattle.listing_levels.specs.Levels.{Level, levels}
 use Rattle.words.specs.Told.{spotNumber, earlierNumber, Told, accepted, refused, then}
 use Rattle.text_numbers.specs.Decimal.{digitsOf}
 use Rattle.text_keys.specs.Parts.{newline}
+use Rattle.plan_lines.specs.Field.{fieldText}
 use Rattle.text_entries.specs.Entries.{oneLine, entriesOf, badEntry}
 use Rattle.pattern_check.specs.Calls.{checkOf}
 use Rattle.line_refusal.specs.Text.{refusalText}
@@ -48,7 +49,7 @@ levelsText (l ∷ ls) = levelText l ++ levelsText ls
 
 -- the line of the rank: `rank=9`
 unfoldable pub rankText : ℕ → List ℕ
-rankText r = (quoted "rank=" ++ digitsOf r) ++ ended
+rankText r = fieldText (quoted "rank=") (digitsOf r)
 
 -- why a pattern has its rank: its levels on the way from rank 0, where its list is read forward, and then the rank
 unfoldable pub whyText : List ℕ → List ℕ

@@ -15,7 +15,7 @@ use Rattle.listing.specs.Pattern.{entry, Derangement}
 use Rattle.listing.specs.Steps.{shorter, back, letter}
 use Rattle.listing.specs.Rank.{rank}
 use Rattle.listing.specs.Reading.{comesFirst, passed}
-use Rattle.listing.specs.Limits.{mostPorts}
+use Rattle.listing.specs.Limits.{mostPorts, largest64}
 use Rattle.listing.proofs.Limits.{count-most}
 use Rattle.listing.proofs.Ranks.{rank-below}
 use Rattle.listing_course.specs.InPlace.{WithInverse}
@@ -23,7 +23,7 @@ use Rattle.listing_course.proofs.Courses.{shorter-fewer}
 use Rattle.listing_levels.specs.Levels.{levelOf, levels, total}
 use Rattle.listing_levels.proofs.Levels.{levels-down, levels-none, levels-add-up, two-below}
 use Rattle.line_putting.specs.Putting.{Puts}
-use Rattle.line_putting.proofs.Putting.{Going, going-first, next-room, next-put, puts-as}
+use Rattle.line_putting.proofs.Putting.{Going, going-first, going-room, going-on, puts-as}
 use Rattle.pattern_levels.specs.Levels.{letterOf, endOf, Peeled}
 use Rattle.pattern_levels.specs.declared.types.Came.{Came}
 use Rattle.pattern_levels.proofs.Came.{as-came}
@@ -40,7 +40,7 @@ pub record Telling (p old a b : List ℕ) (n : ℕ) (forward : Bool) (sum at : �
   pub long : length a ≡ mostPorts
   pub long-back : length b ≡ mostPorts
   pub arrays : WithInverse n a b
-  pub below : rank (length p) p ≤ 895014631192902121
+  pub below : rank (length p) p ≤ largest64
   pub short : length (whyText p) ≤ mostExplained
   pub adds : sum + total (levels forward n (take n a)) ≡ rank (length p) p
   pub left : Going 0 (whyText p) old at (levelsText (levels forward n (take n a)) ++ rankText (rank (length p) p)) buf
@@ -114,7 +114,7 @@ module _ (p old a b : List ℕ) (n : ℕ) (forward : Bool) (sum at : ℕ) (buf :
     added = omega (arith, ap total next, T .adds)
 
     pub level-room : at + length (levelText (levelIs n w l)) ≤ length buf
-    level-room = next-room (levelText (levelIs n w l)) _ line
+    level-room = going-room (levelText (levelIs n w l)) _ line refl
 
     pub sum-fits : Fits w64 (sum + l .passed)
     sum-fits = omega (arith, added, T .below)
@@ -131,7 +131,7 @@ module _ (p old a b : List ℕ) (n : ℕ) (forward : Bool) (sum at : ℕ) (buf :
           below = T .below;
           short = T .short;
           adds = added;
-          left = next-put (levelText (levelIs n w l)) _ line Q;
+          left = going-on (levelText (levelIs n w l)) _ line refl Q;
         }
 
   -- ---- none is left

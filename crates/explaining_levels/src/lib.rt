@@ -6,6 +6,7 @@ use pattern_levels::telling::block_of;
 use pattern_levels::types::Came;
 use pattern_ranks::ranking::placed_by;
 use pattern_ranks::types::Level;
+use plan_facts::put_line;
 use words::limits::LONGEST;
 ghost use mathlib.Core.Path.{_≡_};
 ghost use mathlib.Core.List.{_++_};
@@ -15,7 +16,7 @@ ghost use Rattle.listing.specs.Limits.{mostPorts};
 ghost use Rattle.listing_course.specs.InPlace.{WithInverse};
 ghost use Rattle.line_putting.specs.Putting.{Puts};
 ghost use Rattle.pattern_levels.specs.Levels.{letterOf};
-ghost use Rattle.explaining.specs.Text.{byText, readText, levelText, rankText, whyText, mostExplained};
+ghost use Rattle.explaining.specs.Text.{byText, readText, levelText, whyText, mostExplained};
 ghost use Rattle.explaining_levels.specs.Levels.{levelIs};
 
 // The fewest ports of a level that is told.
@@ -56,15 +57,6 @@ fn put_level(n: u8, c: Came, l: Level, from: usize, buf: &mut [u8]) -> usize
     put_text(b"\n", end, buf)
 }
 
-// The line of a rank.
-fn put_rank(rank: u64, from: usize, buf: &mut [u8]) -> usize
-    requires { ⌜ from + length (rankText rank) ≤ length (now buf) ⌝ }
-    ensures { λ r. ⌜ Puts from (rankText rank) (now (buf .entry)) r (now (buf .exit)) ⌝ }
-{
-    let end = put_number(b"rank=", rank, from, buf);
-    put_text(b"\n", end, buf)
-}
-
 // Why the pattern of so many ports that the copy begins with has its rank, at the front of a buffer; how many bytes that takes. The copy and the inverse are
 // used up.
 pub fn put_why(
@@ -90,5 +82,5 @@ pub fn put_why(
         forward = l.forward;
         n = l.ports;
     }
-    put_rank(rank, at, buf)
+    put_line(b"rank=", rank, at, buf)
 }

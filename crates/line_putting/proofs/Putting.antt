@@ -78,30 +78,20 @@ pub record Going (from : ℕ) (all old : List ℕ) (at : ℕ) (rest buf : List �
 pub going-first : (from : ℕ) (all old : List ℕ) → from + length all ≤ length old → Going from all old from all old
 going-first from all old h = record { room = h; long = refl; comes = λ after left P. P }
 
-module _ (from : ℕ) (all old : List ℕ) (at : ℕ) (rest buf : List ℕ) (G : Going from all old at rest buf) where
-  -- a line of the rest is put
-  module _ (t more : List ℕ) (e : rest ≡ t ++ more) where
-    pub going-room : at + length t ≤ length buf
-    going-room = omega (arith, G .room, ap length e, length-append t more)
+-- a line of the rest is put
+module _ {from at : ℕ} {all old rest buf : List ℕ} (t more : List ℕ) (G : Going from all old at rest buf) (e : rest ≡ t ++ more) where
+  pub going-room : at + length t ≤ length buf
+  going-room = omega (arith, G .room, ap length e, length-append t more)
 
-    pub going-on : (after : ℕ) (left : List ℕ) → Puts at t buf after left → Going from all old after more left
-    going-on after left P =
-        let same = puts-length at t buf after left P going-room in
-        record {
-          room = omega (arith, G .room, ap length e, length-append t more, P .place, same);
-          long = same ∙ G .long;
-          comes = λ r d Q. G .comes r d (puts-as (sym e) (puts-both at t more buf after left r d going-room P Q));
-        }
+  pub going-on : {after : ℕ} {left : List ℕ} → Puts at t buf after left → Going from all old after more left
+  going-on {after = after} {left = left} P =
+      let same = puts-length at t buf after left P going-room in
+      record {
+        room = omega (arith, G .room, ap length e, length-append t more, P .place, same);
+        long = same ∙ G .long;
+        comes = λ r d Q. G .comes r d (puts-as (sym e) (puts-both at t more buf after left r d going-room P Q));
+      }
 
-  -- none is left
-  pub going-over : rest ≡ [] → Puts from all old at buf
-  going-over e = G .comes at buf (puts-as (sym e) (puts-none at buf))
-
--- the same of a rest that begins with the line
-pub next-room : {from at : ℕ} {all old buf : List ℕ} (t more : List ℕ) → Going from all old at (t ++ more) buf → at + length t ≤ length buf
-next-room {from = from} {at = at} {all = all} {old = old} {buf = buf} t more G = going-room from all old at (t ++ more) buf G t more refl
-
-pub next-put : {from at after : ℕ} {all old buf left : List ℕ} (t more : List ℕ) → Going from all old at (t ++ more) buf → Puts at t buf after left
-    → Going from all old after more left
-next-put {from = from} {at = at} {after = after} {all = all} {old = old} {buf = buf} {left = left} t more G P =
-    going-on from all old at (t ++ more) buf G t more refl after left P
+-- none is left
+pub going-over : {from at : ℕ} {all old rest buf : List ℕ} → Going from all old at rest buf → rest ≡ [] → Puts from all old at buf
+going-over {at = at} {buf = buf} G e = G .comes at buf (puts-as (sym e) (puts-none at buf))

@@ -30,7 +30,7 @@ use Rattle.listing_levels.proofs.Blocks.{block-there, reading-at, readi
 -- ---- one level
 
 -- its own level and then the levels of the shorter pattern
-pub levels-next : (forward : Bool) (m : ℕ) (p : List ℕ) (w : Letter) → let n = suc (suc (suc m)) in
+levels-next : (forward : Bool) (m : ℕ) (p : List ℕ) (w : Letter) → let n = suc (suc (suc m)) in
     letter n p ≡ w → levels forward n p ≡ levelBy forward n w (entry p n) ∷ levels (comesFirst forward w (entry p n)) (shorter w n) (back w n p)
 unfolding levels
 levels-next forward m p byA e = rw e

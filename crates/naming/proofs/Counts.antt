@@ -31,18 +31,18 @@ module _ (named of gaps : ℕ) (old : List ℕ) (room : length (countsText named
   start = going-first 0 (countsText named of gaps) old (omega (arith, room))
 
   pub named-room : 0 + length a ≤ length old
-  named-room = going-room 0 (countsText named of gaps) old 0 (a ++ (b ++ c)) old start a (b ++ c) refl
+  named-room = going-room a (b ++ c) start refl
 
   module _ (i : ℕ) (x : List ℕ) (P : Puts 0 a old i x) where
     named-put : Left i (b ++ c) x
-    named-put = going-on 0 (countsText named of gaps) old 0 (a ++ (b ++ c)) old start a (b ++ c) refl i x P
+    named-put = going-on a (b ++ c) start refl P
 
     pub of-room : i + length b ≤ length x
-    of-room = going-room 0 (countsText named of gaps) old i (b ++ c) x named-put b c refl
+    of-room = going-room b c named-put refl
 
     module _ (j : ℕ) (y : List ℕ) (Q : Puts i b x j y) where
       of-put : Left j c y
-      of-put = going-on 0 (countsText named of gaps) old i (b ++ c) x named-put b c refl j y Q
+      of-put = going-on b c named-put refl Q
 
       pub gaps-room : j + length c ≤ length y
       gaps-room = of-put .room

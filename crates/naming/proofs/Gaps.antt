@@ -56,13 +56,11 @@ module _ (from : ℕ) (all old : List ℕ) (at : ℕ) (ns : List ℕ) (k left : 
   -- there is room for it, and when it is put the others are left
   module _ (some : 0 < left) where
     pub gap-room : at + length (gapText (gapAt ns k)) ≤ length buf
-    gap-room =
-        going-room from all old at (linesFrom ns k left) buf G (gapText (gapAt ns k)) (linesFrom ns (k + 2) (left - 1)) (lines-next ns k left some)
+    gap-room = going-room (gapText (gapAt ns k)) (linesFrom ns (k + 2) (left - 1)) G (lines-next ns k left some)
 
     pub gap-on : (after : ℕ) (b : List ℕ) → Puts at (gapText (gapAt ns k)) buf after b → Going from all old after (linesFrom ns (k + 2) (left - 1)) b
-    gap-on =
-        going-on from all old at (linesFrom ns k left) buf G (gapText (gapAt ns k)) (linesFrom ns (k + 2) (left - 1)) (lines-next ns k left some)
+    gap-on after b P = going-on (gapText (gapAt ns k)) (linesFrom ns (k + 2) (left - 1)) G (lines-next ns k left some) P
 
   -- none is left: all are put
   pub gaps-over : left ≡ 0 → Puts from all old at buf
-  gaps-over e = going-over from all old at (linesFrom ns k left) buf G (lines-none ns k left e)
+  gaps-over e = going-over G (lines-none ns k left e)

@@ -55,7 +55,7 @@ module _ (p : Plan) (t : Tally) (of : ℕ) (u old : List ℕ) (K : Known p t of 
 
   -- the counts first
   pub counts-room : length counts ≤ length old
-  counts-room = omega (arith, going-room 0 (namedText p) old 0 (namedText p) old start counts lines is-text)
+  counts-room = omega (arith, going-room counts lines start is-text)
 
   -- the numbers of the gaps are there
   pub gaps-there : 2 * t .gaps ≤ length u
@@ -64,7 +64,7 @@ module _ (p : Plan) (t : Tally) (of : ℕ) (u old : List ℕ) (K : Known p t of 
   -- then their lines
   module _ (at : ℕ) (b : List ℕ) (P : Puts 0 counts old at b) where
     after : Going 0 (namedText p) old at lines b
-    after = going-on 0 (namedText p) old 0 (namedText p) old start counts lines is-text at b P
+    after = going-on counts lines start is-text P
 
     pub lines-room : at + length lines ≤ length b
     lines-room = after .room

@@ -4,16 +4,14 @@ use pattern_steps::counts::count_of;
 use plan_arcs::gaps::GAP_NUMBERS;
 use plan_arcs::gaps::count_named;
 use plan_arcs::gaps::put_gaps;
-use plan_facts::number_line;
 use plan_facts::pair_line;
+use plan_facts::put_line;
 use plan_rules::Plan;
 ghost use mathlib.Core.Path.{_≡_};
 ghost use mathlib.Core.Bool.{true};
 ghost use Prim.Native.Nat.{_+_, _*_, _≤_};
 ghost use lib.ListN.{length};
-ghost use Rattle.text_numbers.specs.Decimal.{digitsOf};
 ghost use Rattle.line_format.specs.Calls.{over};
-ghost use Rattle.plan_lines.specs.Field.{fieldText};
 ghost use Rattle.plan_rules.specs.Planned.{device};
 ghost use Rattle.plan_rules.specs.Rules.{planRuled};
 ghost use Rattle.naming.specs.Text.{countsText, gapText, gapsText, namedText, mostNamed};
@@ -23,15 +21,7 @@ ghost use Rattle.naming.specs.Arcs.{arcsIn};
 // No text is longer.
 pub const NAMED_BYTES: usize = 718;
 
-// A line with a number after its key, put into a buffer from a place on; the place after it.
-fn put_number(key: &[u8], n: u64, at: usize, buf: &mut [u8]) -> usize
-    requires { ⌜ (length (now key) ≤ 8) × (at + length (fieldText (now key) (digitsOf n)) ≤ length (now buf)) ⌝ }
-    ensures { λ r. ⌜ Puts at (fieldText (now (key .entry)) (digitsOf n)) (now (buf .entry)) r (now (buf .exit)) ⌝ }
-{
-    put_spelled(number_line(key, n), at, buf)
-}
-
-// A gap: its first rank, and how many ranks it has.
+// A gap, its first rank and how many ranks it has, put into a buffer from a place on; the place after it.
 fn put_gap(first: u64, many: u64, at: usize, buf: &mut [u8]) -> usize
     requires { ⌜ at + length (gapText (record { first = first; many = many })) ≤ length (now buf) ⌝ }
     ensures { λ r. ⌜ Puts at (gapText (record { first = first; many = many })) (now (buf .entry)) r (now (buf .exit)) ⌝ }
@@ -60,9 +50,9 @@ fn put_counts(named: u64, of: u64, gaps: u64, buf: &mut [u8]) -> usize
     requires { ⌜ length (countsText named of gaps) ≤ length (now buf) ⌝ }
     ensures { λ r. ⌜ Puts 0 (countsText named of gaps) (now (buf .entry)) r (now (buf .exit)) ⌝ }
 {
-    let first = put_number(b"named=", named, 0, buf);
-    let second = put_number(b"of=", of, first, buf);
-    put_number(b"gaps=", gaps, second, buf)
+    let first = put_line(b"named=", named, 0, buf);
+    let second = put_line(b"of=", of, first, buf);
+    put_line(b"gaps=", gaps, second, buf)
 }
 
 // What a plan names, written at the front of a buffer; how many bytes that takes.

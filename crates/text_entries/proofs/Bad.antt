@@ -1,19 +1,18 @@
--- The first bad entry: where a text is not read as entries, one of them is bad (`bad-there`), and it is at most one more than the text is long (`bad-within`).
--- In front, the loop that counts the entries before it.
+-- The first bad entry: where a text is not read as entries, one of them is bad (`bad-there`). In front, the loop that counts the entries before it.
 -- Assumes nothing.
 use mathlib.Core.Path.{_≡_, refl, sym, ap, _∙_}
-use mathlib.Core.Bool.{Bool, true, false, cond}
+use mathlib.Core.Bool.{false, cond}
 use mathlib.Core.List.{List, [], _∷_}
 use mathlib.Core.Option.{Option, none, some, Option·map, bind}
 use Prim.Native.Nat.{ℕ, zero, suc, _+_, _≤_, _<_}
 use native.Mathlib.Omega.{arith}
 use lib.Dec.{eqb}
-use lib.ListN.{length, drop}
+use lib.ListN.{drop}
 use borrow.Author.Tests.{ne-eqb}
 use Rattle.text_numbers.specs.Decimal.{numberUpTo}
 use Rattle.text_numbers.proofs.Inverse.{none-some}
 use Rattle.text_keys.specs.Parts.{comma}
-use Rattle.text_entries.specs.Entries.{onFirst, pieces, eachNumber, entriesIn, badAfter, firstBad, badEntry}
+use Rattle.text_entries.specs.Entries.{pieces, eachNumber, entriesIn, badAfter, firstBad, badEntry}
 
 -- what is found is not 0
 some-found : (k : ℕ) → eqb (suc k) 0 ≡ false
@@ -88,38 +87,3 @@ module _ (most : ℕ) where
   pub bad-there : (t : List ℕ) → entriesIn most t ≡ none → 1 ≤ badEntry most t
   unfolding entriesIn badEntry
   bad-there t e = bad-one (pieces comma t) e
-
--- ---- how far it is
-
--- one entry more in front
-one-further : (o : Option ℕ) (later k : ℕ) → later ≤ k → badAfter o later ≤ suc k
-one-further none later k h = omega arith
-one-further (some n) zero k h = omega arith
-one-further (some n) (suc j) k h = rw (some-found j) (omega arith)
-
--- one byte in front adds a piece at most
-more-pieces : (b : ℕ) (ps : List (List ℕ)) (k : ℕ) → length ps ≤ suc k → length (onFirst b ps) ≤ suc (suc k)
-more-pieces b [] k h = omega arith
-more-pieces b (p ∷ ps) k h = omega arith
-
--- so the pieces are at most one more than a text is long
-few-pieces : (s : ℕ) (t : List ℕ) → length (pieces s t) ≤ suc (length t)
-unfolding pieces
-few-pieces s [] = omega arith
-few-pieces s (b ∷ t) = by (few-pieces s t) (eqb b s)
-  where
-    by : length (pieces s t) ≤ suc (length t) → (e : Bool) → length (cond e ([] ∷ pieces s t) (onFirst b (pieces s t))) ≤ suc (suc (length t))
-    by h true = omega arith
-    by h false = more-pieces b (pieces s t) (length t) h
-
-module _ (most : ℕ) where
-  -- the first bad one of some texts is one of them
-  bad-among : (ps : List (List ℕ)) → firstBad most ps ≤ length ps
-  unfolding firstBad
-  bad-among [] = omega arith
-  bad-among (p ∷ ps) = one-further (numberUpTo most p) (firstBad most ps) (length ps) (bad-among ps)
-
-  -- so the first bad entry is at most one more than a text is long
-  pub bad-within : (t : List ℕ) → badEntry most t ≤ suc (length t)
-  unfolding badEntry
-  bad-within t = omega (arith, bad-among (pieces comma t), few-pieces comma t)

@@ -34,13 +34,13 @@ rest-none p k h = ap (λ q. following comma (map digitsOf q)) (drop-of-length-le
 module _ (p : List ℕ) (from : ℕ) (old : List ℕ) (at k : ℕ) (buf : List ℕ) (G : Going from (restText p 1) old at (restText p k) buf) where
   module _ (h : k < length p) where
     pub entry-room : at + length (entryText p k) ≤ length buf
-    entry-room = going-room from (restText p 1) old at (restText p k) buf G (entryText p k) (restText p (k + 1)) (rest-next p k h)
+    entry-room = going-room (entryText p k) (restText p (k + 1)) G (rest-next p k h)
 
     pub entry-on : (after : ℕ) (b : List ℕ) → Puts at (entryText p k) buf after b → Going from (restText p 1) old after (restText p (k + 1)) b
-    entry-on = going-on from (restText p 1) old at (restText p k) buf G (entryText p k) (restText p (k + 1)) (rest-next p k h)
+    entry-on after b P = going-on (entryText p k) (restText p (k + 1)) G (rest-next p k h) P
 
   pub entries-over : length p ≤ k → Puts from (restText p 1) old at buf
-  entries-over h = going-over from (restText p 1) old at (restText p k) buf G (rest-none p k h)
+  entries-over h = going-over G (rest-none p k h)
 
 -- ---- all of them: the first has no comma before it
 
@@ -54,11 +54,11 @@ module _ (p : List ℕ) (from : ℕ) (old : List ℕ) (some : 1 ≤ length p) (r
   start = going-first from (entriesText p) old room
 
   pub first-room : from + length (digitsOf (getD p 0 0)) ≤ length old
-  first-room = going-room from (entriesText p) old from (entriesText p) old start (digitsOf (getD p 0 0)) (restText p 1) (all-first p some)
+  first-room = going-room (digitsOf (getD p 0 0)) (restText p 1) start (all-first p some)
 
   module _ (at : ℕ) (buf : List ℕ) (P : Puts from (digitsOf (getD p 0 0)) old at buf) where
     after : Going from (entriesText p) old at (restText p 1) buf
-    after = going-on from (entriesText p) old from (entriesText p) old start (digitsOf (getD p 0 0)) (restText p 1) (all-first p some) at buf P
+    after = going-on (digitsOf (getD p 0 0)) (restText p 1) start (all-first p some) P
 
     pub rest-room : at + length (restText p 1) ≤ length buf
     rest-room = after .room

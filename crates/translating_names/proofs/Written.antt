@@ -39,32 +39,32 @@ module _ (x : Named) (old : List ℕ) (room : length (namesText x) ≤ length ol
   start = going-first 0 (namesText x) old (omega (arith, room))
 
   pub rank-room : 0 + length a ≤ length old
-  rank-room = going-room 0 (namesText x) old 0 (a ++ (b ++ (c ++ (d ++ e)))) old start a (b ++ (c ++ (d ++ e))) refl
+  rank-room = going-room a (b ++ (c ++ (d ++ e))) start refl
 
   module _ (i : ℕ) (u : List ℕ) (P : Puts 0 a old i u) where
     rank-put : Left i (b ++ (c ++ (d ++ e))) u
-    rank-put = going-on 0 (namesText x) old 0 (a ++ (b ++ (c ++ (d ++ e)))) old start a (b ++ (c ++ (d ++ e))) refl i u P
+    rank-put = going-on a (b ++ (c ++ (d ++ e))) start refl P
 
     pub number-room : i + length b ≤ length u
-    number-room = going-room 0 (namesText x) old i (b ++ (c ++ (d ++ e))) u rank-put b (c ++ (d ++ e)) refl
+    number-room = going-room b (c ++ (d ++ e)) rank-put refl
 
     module _ (j : ℕ) (v : List ℕ) (Q : Puts i b u j v) where
       number-put : Left j (c ++ (d ++ e)) v
-      number-put = going-on 0 (namesText x) old i (b ++ (c ++ (d ++ e))) u rank-put b (c ++ (d ++ e)) refl j v Q
+      number-put = going-on b (c ++ (d ++ e)) rank-put refl Q
 
       pub key-room : j + length c ≤ length v
-      key-room = going-room 0 (namesText x) old j (c ++ (d ++ e)) v number-put c (d ++ e) refl
+      key-room = going-room c (d ++ e) number-put refl
 
       module _ (k : ℕ) (w : List ℕ) (R : Puts j c v k w) where
         key-put : Left k (d ++ e) w
-        key-put = going-on 0 (namesText x) old j (c ++ (d ++ e)) v number-put c (d ++ e) refl k w R
+        key-put = going-on c (d ++ e) number-put refl R
 
         pub entries-room : k + length d ≤ length w
-        entries-room = going-room 0 (namesText x) old k (d ++ e) w key-put d e refl
+        entries-room = going-room d e key-put refl
 
         module _ (l : ℕ) (y : List ℕ) (S : Puts k d w l y) where
           entries-put : Left l e y
-          entries-put = going-on 0 (namesText x) old k (d ++ e) w key-put d e refl l y S
+          entries-put = going-on d e key-put refl S
 
           pub newline-room : l + length e ≤ length y
           newline-room = entries-put .room

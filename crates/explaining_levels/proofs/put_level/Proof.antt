@@ -1,13 +1,13 @@
 -- `explaining_levels::put_level` puts each part of the line behind the one before.
 -- Assumes nothing.
-use mathlib.Core.Path.{ap}
+use mathlib.Core.Path.{refl, ap}
 use mathlib.Core.List.{List, _++_}
 use Prim.Native.Nat.{ℕ}
 use borrow.Author.Needs.{needs}
 use Rattle.listing_levels.specs.Levels.{Level}
 use Rattle.text_numbers.specs.Decimal.{digitsOf}
 use Rattle.line_putting.specs.Putting.{Puts}
-use Rattle.line_putting.proofs.Putting.{Going, going-first, next-room, next-put, puts-as}
+use Rattle.line_putting.proofs.Putting.{Going, going-first, going-room, going-on, puts-as}
 use Rattle.line_refusal.specs.Words.{quoted}
 use Rattle.explaining.specs.Text.{byText, readText, ended, levelText}
 use Rattle.explaining_levels.specs.Levels.{levelIs}
@@ -55,7 +55,7 @@ s5 c = s4 (c .before .before .before .before .before)
 at-last : (c : tie.After-put-number) → let l = level (s1 c) in
     Left (s1 c) (c .put-number .result) (last l ++ (byText (l .by) ++ (readText (l .forward) ++ (over l ++ ended)))) (c .put-number .last .1 .1 .1 .0)
 unfolding quoted
-at-last c = next-put _ _ (at-ports (s1 c)) (c .put-number .ensures)
+at-last c = going-on _ _ (at-ports (s1 c)) refl (c .put-number .ensures)
 
 -- the number that was put
 said : (c : tie.After-put-number2) → Puts (c .before .before .before .before .before .before .put-number .result) (last (level (s2 c)))
@@ -65,35 +65,35 @@ said c = puts-as (ap (λ i. quoted " last=" ++ digitsOf i) (c .before .before .b
 
 at-by : (c : tie.After-put-number2) → let l = level (s2 c) in
     Left (s2 c) (c .put-number2 .result) (byText (l .by) ++ (readText (l .forward) ++ (over l ++ ended))) (c .put-number2 .last .1 .1 .1 .0)
-at-by c = next-put _ _ (at-last (c .before .before .before .before .before .before)) (said c)
+at-by c = going-on _ _ (at-last (c .before .before .before .before .before .before)) refl (said c)
 
 at-read : (c : tie.After-put-by) → let l = level (s3 c) in
     Left (s3 c) (c .put-by .result) (readText (l .forward) ++ (over l ++ ended)) (c .put-by .last .1 .1 .0)
-at-read c = next-put _ _ (at-by (c .before .before .before .before)) (c .put-by .ensures)
+at-read c = going-on _ _ (at-by (c .before .before .before .before)) refl (c .put-by .ensures)
 
 at-over : (c : tie.After-put-read) → Left (s4 c) (c .put-read .result) (over (level (s4 c)) ++ ended) (c .put-read .last .1 .1 .0)
-at-over c = next-put _ _ (at-read (c .before .before .before .before)) (c .put-read .ensures)
+at-over c = going-on _ _ (at-read (c .before .before .before .before)) refl (c .put-read .ensures)
 
 at-end : (c : tie.After-put-number3) → Left (s5 c) (c .put-number3 .result) ended (c .put-number3 .last .1 .1 .1 .0)
 unfolding quoted
-at-end c = next-put _ _ (at-over (c .before .before .before .before .before)) (c .put-number3 .ensures)
+at-end c = going-on _ _ (at-over (c .before .before .before .before .before)) refl (c .put-number3 .ensures)
 
 put-number-requires : tie.Need-put-number-requires
 unfolding quoted
-put-number-requires c κs = let s = c .before .before .before in (search needs, next-room (ports (level s)) _ (at-ports s))
+put-number-requires c κs = let s = c .before .before .before in (search needs, going-room (ports (level s)) _ (at-ports s) refl)
 
 put-number-requires-2 : tie.Need-put-number-requires-2
 unfolding quoted
 put-number-requires-2 c κs =
     let b = c .before in
     let a = b .before .before .before .before in
-    (search needs, rw (b .block-of .ensures) (next-room (last (level (s1 a))) _ (at-last a)))
+    (search needs, rw (b .block-of .ensures) (going-room (last (level (s1 a))) _ (at-last a) refl))
 
 put-number-requires-3 : tie.Need-put-number-requires-3
 unfolding quoted
 put-number-requires-3 c κs =
     let r = c .before .before .before .before in
-    (search needs, next-room (over (level (s4 r))) ended (at-over r))
+    (search needs, going-room (over (level (s4 r))) ended (at-over r) refl)
 
 pub put-level-spec : {M : Type 1} → statement M
 put-level-spec =
@@ -105,8 +105,8 @@ put-level-spec =
     (λ c κs. search needs)
     (λ c. search needs)
     put-number-requires-2
-    (λ c κs. let b = c .before .before .before in next-room (byText (level (s2 b) .by)) _ (at-by b))
-    (λ c κs. let r = c .before .before .before in next-room (readText (level (s3 r) .forward)) _ (at-read r))
+    (λ c κs. let b = c .before .before .before in going-room (byText (level (s2 b) .by)) _ (at-by b) refl)
+    (λ c κs. let r = c .before .before .before in going-room (readText (level (s3 r) .forward)) _ (at-read r) refl)
     (λ c. search needs)
     put-number-requires-3
     (λ c. search needs)

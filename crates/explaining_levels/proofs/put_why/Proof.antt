@@ -5,16 +5,18 @@ use native.Mathlib.Omega.{arith}
 use lib.ListN.{take}
 use borrow.Author.Needs.{needs}
 use Rattle.pattern_levels.proofs.Came.{end-among}
+use Rattle.line_refusal.specs.Words.{quoted}
+use Rattle.explaining.specs.Text.{rankText}
 use Rattle.explaining_levels.proofs.Telling.{Telling, telling-first, fewer, level-room, sum-fits, telling-next, rank-room, rank-put}
 use Rattle.explaining_levels.proofs.put_why.Statement.{statement}
 use Rattle.explaining_levels.proofs.put_why.Tie as tie
 
 abbrev Inv-loop : tie.InvT-loop
-Inv-loop copy₀ inverse₀ ports buf₀ n₀ forward₀ rank₀ at₀ copy inverse buf n forward rank at =
+Inv-loop copy₀ inverse₀ ports buf₀ n₀ forward₀ rank₀ at₀ key copy inverse buf n forward rank at =
     Telling (take ports copy₀) buf₀ copy inverse n forward rank at buf
 
 abbrev μ-loop : tie.MeasureT-loop
-μ-loop copy₀ inverse₀ ports buf₀ n₀ forward₀ rank₀ at₀ copy inverse buf n forward rank at = n
+μ-loop copy₀ inverse₀ ports buf₀ n₀ forward₀ rank₀ at₀ key copy inverse buf n forward rank at = n
 
 loop-holds : tie.Need-loop-holds Inv-loop μ-loop
 loop-holds c = let s = c .before in let h = s .pre in telling-first _ _ _ _ (h .2) (h .3) (h .0) (h .1) (h .4) (h .5)
@@ -57,17 +59,21 @@ loop-again c =
     telling-next _ _ _ _ _ _ _ _ _ (t .before .loop .inv) _ _ _ _ (omega (arith, t .loop-test .taken)) (p .peel .ensures) (l .placed-by .ensures) _ _
     (q .put-level .ensures)
 
-put-rank-requires : tie.Need-put-rank-requires Inv-loop μ-loop
-put-rank-requires c κs = let t = c .before in rank-room _ _ _ _ _ _ _ _ _ (t .before .loop .inv) (omega (arith, t .loop-test .left))
+put-line-requires : tie.Need-put-line-requires Inv-loop μ-loop
+unfolding quoted rankText
+put-line-requires c κs =
+    let t = c .before .before in
+    (search needs, rank-room _ _ _ _ _ _ _ _ _ (t .before .loop .inv) (omega (arith, t .loop-test .left)))
 
 same-length : tie.Need-same-length Inv-loop μ-loop
-same-length c = let h = c .before .before .before .before .before .loop .inv .left .long in search needs
+same-length c = let h = c .before .before .before .before .before .before .loop .inv .left .long in search needs
 
 returns : tie.Need-returns Inv-loop μ-loop
+unfolding quoted rankText
 returns c =
     let r = c .before .before in
-    let t = r .before .before in
-    rank-put _ _ _ _ _ _ _ _ _ (t .before .loop .inv) (omega (arith, t .loop-test .left)) _ _ (r .put-rank .ensures)
+    let t = r .before .before .before in
+    rank-put _ _ _ _ _ _ _ _ _ (t .before .loop .inv) (omega (arith, t .loop-test .left)) _ _ (r .put-line .ensures)
 
 pub put-why-spec : {M : Type 1} → statement M
 put-why-spec =
@@ -82,6 +88,7 @@ put-why-spec =
     add-rank
     loop-less
     loop-again
-    put-rank-requires
+    (λ c. search needs)
+    put-line-requires
     same-length
     returns)

@@ -10,7 +10,8 @@ use Rattle.words.specs.Told.{nowhere}
 use Rattle.words.specs.Meaning.{numberOf, spotOf, refusalOf}
 use Rattle.words.specs.declared.Refusal.{Refusal}
 use Rattle.text_entries.specs.Pieces.{lineIs, LineWithin}
-use Rattle.explaining_line.proofs.Explains.{explained-as, refusalAt, text-refused, text-accepted}
+use Rattle.explaining.proofs.Steps.{refusalAt, text-refused, text-accepted}
+use Rattle.explaining_line.proofs.Explains.{explained-as}
 use Rattle.explaining_line.proofs.explain.Statement.{statement}
 use Rattle.explaining_line.proofs.explain.Tie as tie
 

@@ -12,7 +12,8 @@ use Rattle.words.specs.Meaning.{outcomeTold}
 use Rattle.text_entries.specs.Entries.{entriesOf}
 use Rattle.text_entries.proofs.Read.{entries-within, not-given, given, given-front}
 use Rattle.pattern_check.specs.Calls.{checkOf}
-use Rattle.explaining_line.proofs.Explains.{explained-as, line-refused, line-accepted}
+use Rattle.explaining.proofs.Steps.{line-refused, line-accepted}
+use Rattle.explaining_line.proofs.Explains.{explained-as}
 use Rattle.explaining_line.proofs.explain_line.Statement.{statement}
 use Rattle.explaining_line.proofs.explain_line.Tie as tie
 

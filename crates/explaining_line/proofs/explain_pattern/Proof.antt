@@ -12,7 +12,8 @@ use Rattle.pattern_check.specs.Calls.{checkOf}
 use Rattle.pattern_check.proofs.Accepted.{accepted-pattern}
 use Rattle.line_putting.proofs.Putting.{puts-as}
 use Rattle.explaining.specs.Text.{whyText}
-use Rattle.explaining_line.proofs.Explains.{explained-as, pattern-refused, pattern-accepted}
+use Rattle.explaining.proofs.Steps.{pattern-refused, pattern-accepted}
+use Rattle.explaining_line.proofs.Explains.{explained-as}
 use Rattle.explaining_line.proofs.explain_pattern.Statement.{statement}
 use Rattle.explaining_line.proofs.explain_pattern.Tie as tie
 

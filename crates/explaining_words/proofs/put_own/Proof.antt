@@ -1,8 +1,9 @@
 -- `explaining_words::put_own` puts the jack and the port, and then what is wrong with it.
 -- Assumes nothing.
+use mathlib.Core.Path.{refl}
 use mathlib.Core.List.{_++_}
 use borrow.Author.Needs.{needs}
-use Rattle.line_putting.proofs.Putting.{Going, going-first, next-room, next-put}
+use Rattle.line_putting.proofs.Putting.{Going, going-first, going-room, going-on}
 use Rattle.line_refusal.specs.Words.{quoted}
 use Rattle.explaining.specs.Text.{jackText}
 use Rattle.explaining_words.proofs.put_own.Statement.{statement}
@@ -18,11 +19,11 @@ at-own : (c : tie.After-put-jack) → let a = c .before .before .before .before 
     Going (a .from) (jackText (a .j) (quoted ": port ") (a .j) ++ quoted " has the jack's own number") (a .buf .now) (c .put-jack .result)
     (quoted " has the jack's own number") (c .put-jack .last .1 .1 .1 .1 .0)
 unfolding quoted
-at-own c = next-put _ _ (at-jack (c .before .before .before .before)) (c .put-jack .ensures)
+at-own c = going-on _ _ (at-jack (c .before .before .before .before)) refl (c .put-jack .ensures)
 
 put-jack-requires : tie.Need-put-jack-requires
 unfolding quoted
-put-jack-requires c κs = let s = c .before .before .before in next-room (jackText (s .args .j) (quoted ": port ") (s .args .j)) _ (at-jack s)
+put-jack-requires c κs = let s = c .before .before .before in going-room (jackText (s .args .j) (quoted ": port ") (s .args .j)) _ (at-jack s) refl
 
 put-text-requires : tie.Need-put-text-requires
 unfolding quoted

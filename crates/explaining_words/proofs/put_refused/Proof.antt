@@ -1,6 +1,6 @@
 -- `explaining_words::put_refused` puts the two lines of the refusal, the words, and the end of their line.
 -- Assumes nothing.
-use mathlib.Core.Path.{_≡_, sym, ap}
+use mathlib.Core.Path.{_≡_, refl, sym, ap}
 use mathlib.Core.List.{List, _++_}
 use Prim.Native.Nat.{ℕ, _≤_}
 use native.Mathlib.Omega.{arith}
@@ -8,7 +8,7 @@ use lib.ListN.{length}
 use borrow.Author.Needs.{needs}
 use Rattle.listing.specs.Limits.{largest64}
 use Rattle.words.specs.Meaning.{numberOf}
-use Rattle.line_putting.proofs.Putting.{Going, going-first, next-room, next-put, puts-as, room-as, spelled-asked, spelled-puts}
+use Rattle.line_putting.proofs.Putting.{Going, going-first, going-room, going-on, puts-as, room-as, spelled-asked, spelled-puts}
 use Rattle.line_refusal.specs.Text.{refusalText}
 use Rattle.explaining.specs.Text.{ended, wrongText, refusedText, mostExplained}
 use Rattle.explaining.proofs.Longest.{refused-fits}
@@ -51,7 +51,7 @@ s1 c = s0 (c .before .before .before)
 at-words : (c : tie.After-put-spelled) → Left (s1 c) (c .put-spelled .result) (words (s1 c) ++ ended) (c .put-spelled .last .1 .1 .0)
 at-words c =
     let t = c .before .before in
-    next-put _ _ (at-lines (t .before)) (spelled-puts (t .refusal-text .result) _ (t .refusal-text .ensures .0) 0 _ _ _ (c .put-spelled .ensures))
+    going-on _ _ (at-lines (t .before)) refl (spelled-puts (t .refusal-text .result) _ (t .refusal-text .ensures .0) 0 _ _ _ (c .put-spelled .ensures))
 
 abbrev s2 : tie.After-put-wrong → tie.Start
 s2 c = s1 (c .before .before .before .before)
@@ -62,18 +62,18 @@ wrong-so : (c : tie.After-put-spelled) → let a = s1 c .args in
 wrong-so c = let a = s1 c .args in ap (λ k. wrongText k (a .place) (a .earlier) (a .x)) (c .before .before .before .reason-number .ensures)
 
 at-end : (c : tie.After-put-wrong) → Left (s2 c) (c .put-wrong .result) ended (c .put-wrong .last .1 .1 .1 .1 .1 .0)
-at-end c = let p = c .before .before .before .before in next-put _ _ (at-words p) (puts-as (wrong-so p) (c .put-wrong .ensures))
+at-end c = let p = c .before .before .before .before in going-on _ _ (at-words p) refl (puts-as (wrong-so p) (c .put-wrong .ensures))
 
 put-spelled-requires : tie.Need-put-spelled-requires
 put-spelled-requires c κs =
     let t = c .before in
     spelled-asked (t .refusal-text .result) (lines (s0 (t .before))) (t .refusal-text .ensures .0) 0 (s0 (t .before) .args .buf .now)
-    (next-room (lines (s0 (t .before))) _ (at-lines (t .before)))
+    (going-room (lines (s0 (t .before))) _ (at-lines (t .before)) refl)
 
 put-wrong-requires : tie.Need-put-wrong-requires
 put-wrong-requires c κs =
     let p = c .before .before .before in
-    room-as (p .put-spelled .result) (p .put-spelled .last .1 .1 .0) (wrong-so p) (next-room (words (s1 p)) _ (at-words p))
+    room-as (p .put-spelled .result) (p .put-spelled .last .1 .1 .0) (wrong-so p) (going-room (words (s1 p)) _ (at-words p) refl)
 
 returns : tie.Need-returns
 returns c =

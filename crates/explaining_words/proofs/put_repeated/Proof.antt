@@ -1,10 +1,11 @@
 -- `explaining_words::put_repeated` puts the jack and the port, and then the earlier jack.
 -- Assumes nothing.
+use mathlib.Core.Path.{refl}
 use mathlib.Core.List.{List, _++_}
 use Prim.Native.Nat.{ℕ}
 use borrow.Author.Needs.{needs}
 use Rattle.text_numbers.specs.Decimal.{digitsOf}
-use Rattle.line_putting.proofs.Putting.{Going, going-first, next-room, next-put}
+use Rattle.line_putting.proofs.Putting.{Going, going-first, going-room, going-on}
 use Rattle.line_refusal.specs.Words.{quoted}
 use Rattle.explaining.specs.Text.{jackText}
 use Rattle.explaining_words.proofs.put_repeated.Statement.{statement}
@@ -29,19 +30,19 @@ s2 c = s1 (c .before .before .before .before .before)
 at-already : (c : tie.After-put-jack)
     → Left (s1 c) (c .put-jack .result) (quoted " is already at jack " ++ digitsOf (s1 c .args .earlier)) (c .put-jack .last .1 .1 .1 .1 .0)
 unfolding quoted
-at-already c = next-put _ _ (at-jack (s1 c)) (c .put-jack .ensures)
+at-already c = going-on _ _ (at-jack (s1 c)) refl (c .put-jack .ensures)
 
 at-earlier : (c : tie.After-put-text) → Left (s2 c) (c .put-text .result) (digitsOf (s2 c .args .earlier)) (c .put-text .last .1 .1 .0)
 unfolding quoted
-at-earlier c = next-put _ _ (at-already (c .before .before .before .before .before)) (c .put-text .ensures)
+at-earlier c = going-on _ _ (at-already (c .before .before .before .before .before)) refl (c .put-text .ensures)
 
 put-jack-requires : tie.Need-put-jack-requires
 unfolding quoted
-put-jack-requires c κs = let s = c .before .before .before in next-room (jackText (s .args .j) (quoted ": port ") (s .args .port)) _ (at-jack s)
+put-jack-requires c κs = let s = c .before .before .before in going-room (jackText (s .args .j) (quoted ": port ") (s .args .port)) _ (at-jack s) refl
 
 put-text-requires : tie.Need-put-text-requires
 unfolding quoted
-put-text-requires c κs = next-room (quoted " is already at jack ") _ (at-already (c .before .before .before .before))
+put-text-requires c κs = going-room (quoted " is already at jack ") _ (at-already (c .before .before .before .before)) refl
 
 pub put-repeated-spec : {M : Type 1} → statement M
 put-repeated-spec =

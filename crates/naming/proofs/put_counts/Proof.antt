@@ -5,26 +5,26 @@ use Rattle.naming.proofs.Counts.{named-room, of-room, gaps-room, counts
 use Rattle.naming.proofs.put_counts.Statement.{statement}
 use Rattle.naming.proofs.put_counts.Tie as tie
 
-put-number-requires : tie.Need-put-number-requires
-put-number-requires c κs =
+put-line-requires : tie.Need-put-line-requires
+put-line-requires c κs =
     let s = c .before .before .before in
     let a = s .args in
     (search needs, named-room (a .named) (a .of) (a .gaps) (a .buf .now) (s .pre))
 
-put-number-requires-2 : tie.Need-put-number-requires-2
-put-number-requires-2 c κs =
+put-line-requires-2 : tie.Need-put-line-requires-2
+put-line-requires-2 c κs =
     let p = c .before .before .before .before in
     let s = p .before .before .before .before in
     let a = s .args in
-    (search needs, of-room (a .named) (a .of) (a .gaps) (a .buf .now) (s .pre) _ _ (p .put-number .ensures))
+    (search needs, of-room (a .named) (a .of) (a .gaps) (a .buf .now) (s .pre) _ _ (p .put-line .ensures))
 
-put-number-requires-3 : tie.Need-put-number-requires-3
-put-number-requires-3 c κs =
+put-line-requires-3 : tie.Need-put-line-requires-3
+put-line-requires-3 c κs =
     let q = c .before .before .before .before in
     let p = q .before .before .before .before .before in
     let s = p .before .before .before .before in
     let a = s .args in
-    (search needs, gaps-room (a .named) (a .of) (a .gaps) (a .buf .now) (s .pre) _ _ (p .put-number .ensures) _ _ (q .put-number2 .ensures))
+    (search needs, gaps-room (a .named) (a .of) (a .gaps) (a .buf .now) (s .pre) _ _ (p .put-line .ensures) _ _ (q .put-line2 .ensures))
 
 returns : tie.Need-returns
 returns c =
@@ -33,17 +33,17 @@ returns c =
     let p = q .before .before .before .before .before in
     let s = p .before .before .before .before in
     let a = s .args in
-    counts-put (a .named) (a .of) (a .gaps) (a .buf .now) (s .pre) _ _ (p .put-number .ensures) _ _ (q .put-number2 .ensures) _ _ (r .put-number3 .ensures)
+    counts-put (a .named) (a .of) (a .gaps) (a .buf .now) (s .pre) _ _ (p .put-line .ensures) _ _ (q .put-line2 .ensures) _ _ (r .put-line3 .ensures)
 
 pub put-counts-spec : {M : Type 1} → statement M
 put-counts-spec =
     tie.close
     (tie.spec
     (λ c. search needs)
-    put-number-requires
+    put-line-requires
     (λ c. search needs)
-    put-number-requires-2
+    put-line-requires-2
     (λ c. search needs)
-    put-number-requires-3
+    put-line-requires-3
     (λ c. search needs)
     returns)

@@ -1,9 +1,9 @@
--- `naming::put_number` puts what is spelled.
+-- `plan_facts::put_line` puts what is spelled.
 -- Assumes nothing.
 use borrow.Author.Needs.{needs}
 use Rattle.line_putting.proofs.Putting.{spelled-asked, spelled-puts}
-use Rattle.naming.proofs.put_number.Statement.{statement}
-use Rattle.naming.proofs.put_number.Tie as tie
+use Rattle.plan_facts.proofs.put_line.Statement.{statement}
+use Rattle.plan_facts.proofs.put_line.Tie as tie
 
 put-spelled-requires : tie.Need-put-spelled-requires
 put-spelled-requires c κs =
@@ -18,8 +18,8 @@ returns c =
     let s = l .before .before .before in
     spelled-puts (l .number-line .result) _ (l .number-line .ensures) (s .args .at) (s .args .buf .now) _ _ (p .put-spelled .ensures)
 
-pub put-number-spec : {M : Type 1} → statement M
-put-number-spec =
+pub put-line-spec : {M : Type 1} → statement M
+put-line-spec =
     tie.close
     (tie.spec
     (λ c κs. search needs)
