@@ -1,7 +1,7 @@
 # A command on many inputs, and what a page shows of it: for the parts that hold a command to the reference, translation and levels.
 
-# command_each COMMAND FOLDER TEXT..: what the command prints of each text, and its status, in the folder under the text's name: as bin/COMMAND does it, but that the
-# program is looked up once
+# command_each COMMAND FOLDER TEXT..: what the command prints of each text, and its status, in the folder under the text's name: as bin/COMMAND does it, but
+# that the program is looked up once
 command_each() (
     eval "$(grep -E '^(name|what|asked|own_options)=' "$root/bin/$1")"
     after_build=$(sed '1,/^build$/d' "$root/bin/$1")
