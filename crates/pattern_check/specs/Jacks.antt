@@ -7,7 +7,7 @@ use mathlib.Core.Logic.{_≢_}
 use mathlib.Core.List.{List}
 use lib.ListN.{length}
 use Rattle.listing.specs.Pattern.{entry}
-use Rattle.words.specs.Told.{Spot, nowhere, atJack, atJacks, atLine, earlierNumber}
+use Rattle.words.specs.Told.{Spot, nowhere, atJack, atJacks, atLine, atBench, earlierNumber}
 
 -- jack i is before jack j and holds the same port, and no other jack before j does
 pub record Equal (p : List ℕ) (j i : ℕ) : Type 0 where
@@ -23,6 +23,7 @@ BothAt p nowhere = ⊥
 BothAt p (atJack j) = ⊥
 BothAt p (atJacks j i) = Equal p j i
 BothAt p (atLine l) = ⊥
+BothAt p (atBench b) = ⊥
 
 -- what refusal k of p at a place has as its second number: of 4 the place names both jacks, of any other the number is 0
 pub record Second (p : List ℕ) (k : ℕ) (s : Spot) : Type 0 where

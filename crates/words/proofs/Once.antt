@@ -6,7 +6,7 @@ use Prim.Native.Nat.{ℕ}
 use lib.ListN.{getD}
 use Rattle.listing.specs.Orders.{swap, turn, nothing, one, two}
 use Rattle.listing.specs.Orders as list
-use Rattle.words.specs.Told.{Spot, nowhere, atJack, atJacks, atLine}
+use Rattle.words.specs.Told.{Spot, nowhere, atJack, atJacks, atLine, atBench}
 use Rattle.words.specs.Meaning.{jackAt, orderOf, orderFrom, moveOf, numberOf, spotOf, refusalOf, outcomeTold, numberedTold}
 use Rattle.words.specs.declared.Order.{Order}
 use Rattle.words.specs.declared.Order.the-variants.{Swap, Turn}
@@ -34,11 +34,13 @@ reason k =
     getD
     (Shape ∷ Ports ∷ Room ∷ Outside ∷ Repeated ∷ OwnJack ∷ Rank ∷ Key ∷ Number ∷ Legs ∷ Run ∷ Ended ∷ NoMark ∷ MarkStands ∷ Kind ∷ Unfit ∷ Errors ∷ []) k Shape
 
+-- (no refusal of ours is at a bench)
 abbrev place : Spot → Place
 place nowhere = Nowhere
 place (atJack j) = AtJack (jackAt j)
 place (atJacks j i) = AtJacks (jackAt j) (jackAt i)
 place (atLine l) = AtLine l
+place (atBench b) = Nowhere
 
 -- the order that its numbers say
 pub order-back : (o : Order) → orderFrom (orderOf o) ≡ o

@@ -7,12 +7,13 @@ use mathlib.Core.List.{List}
 use mathlib.Core.Option.{Option, none, some}
 
 -- where a fault is: at no place that is said, at a jack of a pattern or panel, at a line of a plan (the paper, 'Refusal numbers'); and of a repeated port at
--- both jacks, the one at fault and the one of the earlier equal entry (request 7)
+-- both jacks, the one at fault and the one of the earlier equal entry (request 7); of counts at the bench that they are of, counted from 0 (request 8)
 pub data Spot : Type 0 where
   nowhere : Spot
   atJack : ℕ → Spot
   atJacks : ℕ → ℕ → Spot
   atLine : ℕ → Spot
+  atBench : ℕ → Spot
 
 -- the number of a place: 0 where none is said
 abbrev pub spotNumber : Spot → ℕ
@@ -20,6 +21,7 @@ spotNumber nowhere = 0
 spotNumber (atJack j) = j
 spotNumber (atJacks j i) = j
 spotNumber (atLine l) = l
+spotNumber (atBench b) = b
 
 -- the second number: 'the jack of the earlier equal entry'; 0 where there is none
 abbrev pub earlierNumber : Spot → ℕ
@@ -27,6 +29,7 @@ earlierNumber nowhere = 0
 earlierNumber (atJack j) = 0
 earlierNumber (atJacks j i) = i
 earlierNumber (atLine l) = 0
+earlierNumber (atBench b) = 0
 
 -- what a call tells
 pub data Told (A : Type 0) : Type 0 where
@@ -43,6 +46,7 @@ placeAlone nowhere = nowhere
 placeAlone (atJack j) = atJack j
 placeAlone (atJacks j i) = atJack j
 placeAlone (atLine l) = atLine l
+placeAlone (atBench b) = atBench b
 
 abbrev pub toldAlone : {A : Type 0} → Told A → Told A
 toldAlone (accepted a) = accepted a
