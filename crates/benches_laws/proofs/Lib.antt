@@ -1,0 +1,5 @@
+pub mod Shares
+pub mod Plans
+pub mod Sums
+pub mod Told
+pub mod Union

@@ -1,0 +1,5 @@
+-- The shares of the benches; their plans; what the calls tell; the benches' histories, and what is promised of their union.
+pub mod Shares
+pub mod Plans
+pub mod Calls
+pub mod Union
