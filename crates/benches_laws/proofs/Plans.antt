@@ -6,7 +6,7 @@ use mathlib.Core.Bool.{false}
 use mathlib.Core.Logic.{_↔_}
 use mathlib.Core.List.{List, [], _∷_, _++_, append-nil, map}
 use mathlib.Core.Option.{Option, none, some}
-use Prim.Native.Nat.{ℕ, zero, suc, _+_, _≤_, _<_}
+use Prim.Native.Nat.{ℕ, zero, suc, _+_, _-_, _≤_, _<_}
 use native.Mathlib.Omega.{arith}
 use lib.ListN.{length, getD}
 use Rattle.listing.specs.Numbers.{is}
@@ -108,6 +108,15 @@ leg-of start (suc run) l e =
 pub plan-leg : (n k b : ℕ) (l : Leg) → planOf n k b ≡ some l → LegOf (begins (count n) k b) (share (count n) k b) l
 unfolding planOf
 plan-leg n k b l e = leg-of (begins (count n) k b) (share (count n) k b) l e
+
+-- no marks, and so many
+pub leg-zero : (start marks : ℕ) → marks < 1 → legFrom start marks ≡ none
+leg-zero start zero h = refl
+leg-zero start (suc run) h = absurd (omega arith)
+
+pub leg-some : (start marks : ℕ) → 1 ≤ marks → legFrom start marks ≡ some (record { start = start; back = false; run = marks - 1 })
+leg-some start zero h = absurd (omega arith)
+leg-some start (suc run) h = let e : suc run - 1 ≡ run = omega arith in rw e refl
 
 leg-none : (start marks : ℕ) → (legFrom start marks ≡ none) ↔ (marks ≡ 0)
 leg-none start zero = (λ e. refl, λ e. refl)

@@ -86,6 +86,19 @@ module _ (total benches : ℕ) (some : 0 < benches) where
   unfolding together
   share-ends b h = omega (arith, all-shared, together-rising (share total benches) (suc b) benches h)
 
+  -- where it begins is within them, too
+  pub begins-most : (b : ℕ) → b ≤ benches → begins total benches b ≤ total
+  begins-most b h = omega (arith, all-shared, together-rising (share total benches) b benches h)
+
+-- a bench among those that have one more, and another
+pub share-more : (total benches b : ℕ) → b < total % benches → share total benches b ≡ total / benches + 1
+unfolding share
+share-more total benches b h = rw (lt-ltb b (total % benches) h) refl
+
+pub share-each : (total benches b : ℕ) → total % benches ≤ b → share total benches b ≡ total / benches
+unfolding share
+share-each total benches b h = omega (arith, ap tick (le-ltb b (total % benches) h))
+
 -- what one more or not adds
 tick-bounds : (b over : ℕ) → tick (ltb b over) ≤ 1
 tick-bounds b over = either (below? b over) (λ l. omega (arith, ap tick (lt-ltb b over l))) (λ l. omega (arith, ap tick (le-ltb b over l)))

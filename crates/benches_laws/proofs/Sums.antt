@@ -16,8 +16,8 @@ use Rattle.text_numbers.proofs.Inverse.{none-some}
 use Rattle.promise.specs.Derangements.{mostErrors}
 use Rattle.promise.proofs.Tests.{clash}
 use Rattle.benches_laws.specs.Shares.{together, inTurn, share, begins}
-use Rattle.benches_laws.specs.Calls.{perBench, coveredAt, openAt, errorsAt, countsFit, benchFits, firstNot}
-use Rattle.benches_laws.proofs.Shares.{together-plus, together-most, together-alike}
+use Rattle.benches_laws.specs.Calls.{perBench, coveredAt, openAt, errorsAt, Counts, sums, countsFit, benchFits, firstNot}
+use Rattle.benches_laws.proofs.Shares.{together-plus, together-most, together-alike, begins-most}
 
 -- ---- three numbers for each bench
 
@@ -98,14 +98,15 @@ pub fits : (marks covered opened errors : ℕ) → covered + opened ≤ marks �
 unfolding countsFit
 fits marks covered opened errors h l = rw (le-leb _ _ h, le-leb _ _ l) refl
 
--- they do not: more is closed than the marks, or there are more errors
+-- they cannot: more is closed than the marks
 pub over-marks : (marks covered opened errors : ℕ) → marks < covered + opened → countsFit marks covered opened errors ≡ false
 unfolding countsFit
 over-marks marks covered opened errors h = rw (lt-leb _ _ h) refl
 
-pub over-errors : (marks covered opened errors : ℕ) → covered + opened ≤ marks → mostErrors < errors → countsFit marks covered opened errors ≡ false
+-- or the errors decide
+pub errors-decide : (marks covered opened errors : ℕ) → covered + opened ≤ marks → countsFit marks covered opened errors ≡ leb errors mostErrors
 unfolding countsFit
-over-errors marks covered opened errors h l = rw (le-leb _ _ h, lt-leb _ _ l) refl
+errors-decide marks covered opened errors h = rw (le-leb _ _ h) refl
 
 -- so the sums of the first benches are no more than their marks, and than the most errors for each
 module _ (total k : ℕ) (ns : List ℕ) where
@@ -116,3 +117,48 @@ module _ (total k : ℕ) (ns : List ℕ) where
           λ b h. fit-so (share total k b) (coveredAt ns b) (openAt ns b) (errorsAt ns b) (all-pass (benchFits total k ns) j e b h) in
       (omega (arith, together-plus (coveredAt ns) (openAt ns) j, together-most (λ b. coveredAt ns b + openAt ns b) (share total k) j (λ b h. so b h .0)),
        omega (arith, together-most (errorsAt ns) (λ b. mostErrors) j (λ b h. so b h .1), together-alike mostErrors j))
+
+-- ---- bench by bench
+
+-- the first benches added up so far: the counts of each can be, and these are their sums
+pub record AddedSo (total k : ℕ) (ns : List ℕ) (covered opened errors bench : ℕ) : Type 0 where
+  pub noneYet : firstNot (benchFits total k ns) bench ≡ none
+  pub coveredSo : covered ≡ together (coveredAt ns) bench
+  pub openedSo : opened ≡ together (openAt ns) bench
+  pub errorsSo : errors ≡ together (errorsAt ns) bench
+
+module _ (total k : ℕ) (ns : List ℕ) where
+  -- none yet
+  pub added-none : AddedSo total k ns 0 0 0 0
+  unfolding together firstNot
+  added-none = record { noneYet = refl; coveredSo = refl; openedSo = refl; errorsSo = refl }
+
+  -- one bench more, whose three numbers stand at a place and were judged
+  module _ (covered opened errors bench at marks : ℕ) (passed : Bool) (A : AddedSo total k ns covered opened errors bench) (place : at ≡ perBench * bench)
+      (own : marks ≡ share total k bench) (judged : passed ≡ countsFit marks (getD ns at 0) (getD ns (at + 1) 0) (getD ns (at + 2) 0)) where
+    pub judged-so : passed ≡ benchFits total k ns bench
+    judged-so = judged ∙ rw (place, own) refl
+
+    module _ (fit : passed ≡ true) where
+      pub added-more : AddedSo total k ns (covered + getD ns at 0) (opened + getD ns (at + 1) 0) (errors + getD ns (at + 2) 0) (bench + 1)
+      unfolding together
+      added-more =
+          let next : bench + 1 ≡ suc bench = omega arith in
+          rw (place, next) (record {
+            noneYet = still-none (benchFits total k ns) bench (A .noneYet) (sym judged-so ∙ fit);
+            coveredSo = ap (λ x. x + coveredAt ns bench) (A .coveredSo);
+            openedSo = ap (λ x. x + openAt ns bench) (A .openedSo);
+            errorsSo = ap (λ x. x + errorsAt ns bench) (A .errorsSo);
+          })
+
+      -- with which the sums stay small
+      pub added-small : bench < k → (covered + getD ns at 0 + (opened + getD ns (at + 1) 0) ≤ total) × (errors + getD ns (at + 2) 0 ≤ mostErrors * (bench + 1))
+      added-small h =
+          let small = sums-small total k ns (bench + 1) (added-more .noneYet) in
+          let ends : begins total k (bench + 1) ≤ total = begins-most total k (omega arith) (bench + 1) (omega arith) in
+          (omega (arith, added-more .coveredSo, added-more .openedSo, small .0), omega (arith, added-more .errorsSo, small .1))
+
+  -- all benches
+  pub added-all : (covered opened errors : ℕ) → AddedSo total k ns covered opened errors k → _≡_ {A = Counts} (record { covered = covered; opened = opened; errors = errors }) (sums ns k)
+  unfolding sums
+  added-all covered opened errors A = rw (A .coveredSo, A .openedSo, A .errorsSo) refl

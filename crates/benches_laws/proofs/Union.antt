@@ -18,7 +18,7 @@ use Rattle.listing.specs.Ends.{home}
 use Rattle.listing.proofs.Numbers.{either, test}
 use Rattle.listing.proofs.Places.{length-listing}
 use Rattle.words.specs.Told.{accepted}
-use Rattle.words.proofs.Shape.{within-true}
+use Rattle.words.proofs.Shape.{among-one}
 use Rattle.promise.specs.Plan.{Leg, Circuit, ranks, marks}
 use Rattle.promise.specs.Campaign.{State, Answer, Setting, numberOf}
 use Rattle.promise.specs.Fitness.{Fit}
@@ -187,7 +187,7 @@ module _ (n k : ℕ) (few : 2 ≤ n) (many : n ≤ mostPorts) (some-bench : 1 �
   pub union : Union n k width H
   union = record {
     sums =
-        sym (sum-told n k lent (ports-good n few many) (within-true 1 mostBenches k some-bench most) (turns-long counts threes k))
+        sym (sum-told n k lent (ports-good n few many) (among-one mostBenches k (some-bench, most)) (turns-long counts threes k))
         ∙ sym (counts-added (count n) k lent (none-fails (benchFits (count n) k lent) k own-fit))
         ∙ ap accepted own-sums;
     met = λ ended. list-once n few (inTurn (λ b. panelsOn n width (planOf n k b) (H b)) k)

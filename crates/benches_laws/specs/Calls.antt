@@ -9,7 +9,7 @@ use lib.ListN.{length, getD}
 use Rattle.listing.specs.Count.{count}
 use Rattle.listing.specs.Limits.{mostPorts}
 use Rattle.words.specs.Told.{Told, accepted, refused, nowhere, atBench}
-use Rattle.words.specs.Shape.{within}
+use Rattle.words.specs.Shape.{oneOf}
 use Rattle.pattern_check.specs.Calls.{sized}
 use Rattle.promise.specs.Plan.{Leg}
 use Rattle.promise.specs.Derangements.{mostErrors}
@@ -22,7 +22,7 @@ mostBenches = 64
 
 -- 'Refusals: 1, then 21 bench count outside 1 to 64'
 unfoldable pub benched : {A : Type 0} → ℕ → ℕ → Told A → Told A
-benched n k t = sized mostPorts n (cond (within 1 mostBenches k) t (refused 21 nowhere))
+benched n k t = sized mostPorts n (cond (oneOf mostBenches k) t (refused 21 nowhere))
 
 -- ---- the share of a bench
 
