@@ -42,13 +42,6 @@ module _ (A : Type 0) where
   fault-once : (f g : Fault) → faultTold {A = A} f ≡ faultTold g → f ≡ g
   fault-once f g e = sym (fault-back f) ∙ ap toldBack e ∙ fault-back g
 
--- a refusal is not accepted
-fault-refused : {A : Type 0} (f : Fault) (a : A) → faultTold f ≡ accepted a → ⊥
-fault-refused Ports a e = not-both e
-fault-refused Benches a e = not-both e
-fault-refused Bench a e = not-both e
-fault-refused (Fault-Counts b) a e = not-both e
-
 -- ---- shares
 
 leg-once : (l m : Leg) → legIs l ≡ legIs m → l ≡ m
@@ -57,12 +50,12 @@ leg-once l m e = ap (λ (x : plan.Leg). record { start = x .start; back = x .bac
 share-once : (r s : Share) → shareTold r ≡ shareTold s → r ≡ s
 share-once (Plan l) (Plan m) e = ap Plan (leg-once l m cc)
 share-once (Plan l) NoPlan e = absurd (true≢false cc)
-share-once (Plan l) (Share-Refused g) e = absurd (fault-refused g (some (legIs l)) (sym e))
+share-once (Plan l) (Share-Refused g) e = absurd (not-both (sym e))
 share-once NoPlan (Plan m) e = absurd (true≢false cc)
 share-once NoPlan NoPlan e = refl
-share-once NoPlan (Share-Refused g) e = absurd (fault-refused g none (sym e))
-share-once (Share-Refused f) (Plan m) e = absurd (fault-refused f (some (legIs m)) e)
-share-once (Share-Refused f) NoPlan e = absurd (fault-refused f none e)
+share-once NoPlan (Share-Refused g) e = absurd (not-both (sym e))
+share-once (Share-Refused f) (Plan m) e = absurd (not-both e)
+share-once (Share-Refused f) NoPlan e = absurd (not-both e)
 share-once (Share-Refused f) (Share-Refused g) e = ap Share-Refused (fault-once (Option plan.Leg) f g e)
 
 pub only-share : (n k b : ℕ) (r s : Share) → shareTold r ≡ shareOf n k b → shareTold s ≡ shareOf n k b → r ≡ s
@@ -75,8 +68,8 @@ counts-once a b e = ap (λ (x : calls.Counts). record { covered = x .covered; op
 
 sum-once : (r s : Sum) → sumTold r ≡ sumTold s → r ≡ s
 sum-once (Is a) (Is b) e = ap Is (counts-once a b (accepted-once e))
-sum-once (Is a) (Sum-Refused g) e = absurd (fault-refused g (countsAre a) (sym e))
-sum-once (Sum-Refused f) (Is b) e = absurd (fault-refused f (countsAre b) e)
+sum-once (Is a) (Sum-Refused g) e = absurd (not-both (sym e))
+sum-once (Sum-Refused f) (Is b) e = absurd (not-both e)
 sum-once (Sum-Refused f) (Sum-Refused g) e = ap Sum-Refused (fault-once calls.Counts f g e)
 
 pub only-sum : (n k : ℕ) (ns : List ℕ) (r s : Sum) → sumTold r ≡ sumOf n k ns → sumTold s ≡ sumOf n k ns → r ≡ s

@@ -1,7 +1,8 @@
 -- What the answers tell, in the request's numbers.
 -- Assumes nothing.
+use Prim.Native.Nat.{ℕ}
 use mathlib.Core.Option.{Option, none, some}
-use Rattle.words.specs.Told.{Told, accepted, refused, nowhere, atBench}
+use Rattle.words.specs.Told.{Spot, nowhere, atBench, Told, accepted, refused}
 use Rattle.promise.specs.Plan.{Leg}
 use Rattle.plan_rules.specs.Rules.{legIs}
 use Rattle.benches_laws.specs.Calls as calls
@@ -13,12 +14,22 @@ use Rattle.benches_calls.specs.declared.Counts.{Counts}
 use Rattle.benches_calls.specs.declared.Sum.{Sum}
 use Rattle.benches_calls.specs.declared.Sum.the-variants.{Is, Refused as Sum-Refused}
 
--- a refusal, by its number and its place: of 27 the bench
+-- the number of a refusal, and its place: of 27 the bench
+abbrev pub faultNumber : Fault → ℕ
+faultNumber Ports = 1
+faultNumber Benches = 21
+faultNumber Bench = 22
+faultNumber (Fault-Counts b) = 27
+
+abbrev pub faultSpot : Fault → Spot
+faultSpot Ports = nowhere
+faultSpot Benches = nowhere
+faultSpot Bench = nowhere
+faultSpot (Fault-Counts b) = atBench b
+
+-- what it tells
 abbrev pub faultTold : {A : Type 0} → Fault → Told A
-faultTold Ports = refused 1 nowhere
-faultTold Benches = refused 21 nowhere
-faultTold Bench = refused 22 nowhere
-faultTold (Fault-Counts b) = refused 27 (atBench b)
+faultTold f = refused (faultNumber f) (faultSpot f)
 
 -- a share: the plan's one leg, or none
 abbrev pub shareTold : Share → Told (Option Leg)

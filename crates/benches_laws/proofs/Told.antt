@@ -10,14 +10,21 @@ use lib.Dec.{eqb, ltb}
 use lib.ListN.{length}
 use borrow.Author.Tests.{eq-eqb, ne-eqb, lt-ltb, le-ltb}
 use Rattle.listing.specs.Count.{count}
-use Rattle.listing.specs.Limits.{mostPorts}
+use Rattle.listing.specs.Numbers.{Among}
+use Rattle.listing.specs.Limits.{mostPorts, largest64}
+use Rattle.listing.proofs.Limits.{count-most}
+use Rattle.listing.proofs.Numbers.{either, test, below?}
 use Rattle.words.specs.Told.{Told, accepted, refused, nowhere, atBench}
 use Rattle.words.specs.Shape.{oneOf}
-use Rattle.words.proofs.Shape.{within-true}
+use Rattle.words.proofs.Told.{accepted-once, not-both}
+use Rattle.words.proofs.Shape.{within-true, one-of}
 use Rattle.pattern_check.specs.Calls.{inSize, sized}
+use Rattle.pattern_check.proofs.Calls.{size-within}
 use Rattle.promise.specs.Plan.{Leg}
 use Rattle.benches_laws.specs.Plans.{planOf}
 use Rattle.benches_laws.specs.Calls.{mostBenches, benched, shareOf, perBench, Counts, sums, benchFits, firstNot, unless, addedUp, sumOf}
+use Rattle.benches_laws.proofs.Shares.{share-ends}
+use Rattle.benches_laws.proofs.Plans.{plan-leg}
 use Rattle.benches_laws.proofs.Sums.{first-now, first-stays, AddedSo, added-all}
 
 -- ---- ports and benches
@@ -39,6 +46,15 @@ module _ {A : Type 0} (n k : ℕ) (t : Told A) where
   unfolding benched sized
   benched-on e f = rw (e, f) refl
 
+  -- what is accepted has good ports and good benches, and is accepted then
+  pub benched-good : (a : A) → benched n k t ≡ accepted a → ((2 ≤ n) × (n ≤ mostPorts)) × Among mostBenches k × (t ≡ accepted a)
+  benched-good a e =
+      either (test (inSize mostPorts n))
+      (λ p. either (test (oneOf mostBenches k))
+      (λ q. (size-within mostPorts n (sym p) refl, one-of mostBenches k q, benched-on p q ∙ e))
+      (λ q. absurd (not-both (benches-refused p q ∙ e))))
+      (λ p. absurd (not-both (ports-refused p ∙ e)))
+
 -- ---- the share of a bench
 
 module _ (n k b : ℕ) (e : inSize mostPorts n ≡ true) (f : oneOf mostBenches k ≡ true) where
@@ -49,6 +65,18 @@ module _ (n k b : ℕ) (e : inSize mostPorts n ≡ true) (f : oneOf mostBenches 
   pub share-told : b < k → accepted (planOf n k b) ≡ shareOf n k b
   unfolding shareOf
   share-told h = sym (rw (lt-ltb b k h) refl) ∙ benched-on n k (cond (ltb b k) (accepted (planOf n k b)) (refused 22 nowhere)) e f
+
+-- a run that is told is below 64 bits: it is one less than a share of the patterns
+pub run-small : (n k b : ℕ) (l : Leg) → shareOf n k b ≡ accepted (some l) → l .run < largest64
+unfolding shareOf
+run-small n k b l e =
+    let B = benched-good n k (cond (ltb b k) (accepted (planOf n k b)) (refused 22 nowhere)) (some l) e in
+    let few : (2 ≤ n) × (n ≤ mostPorts) = B .0 in
+    either (below? b k)
+    (λ h.
+    let told : planOf n k b ≡ some l = accepted-once (rw (lt-ltb b k h) at B .2) in
+    omega (arith, plan-leg n k b l told .long, share-ends (count n) k (omega arith) b h, count-most n (few .1)))
+    (λ h. absurd (not-both (rw (le-ltb b k h) at B .2)))
 
 -- ---- the sum of counts
 

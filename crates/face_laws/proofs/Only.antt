@@ -1,13 +1,11 @@
 -- Nothing else meets the contract of a call: what two runs of it answer and leave is the same. A law for each call, all by `only`.
 -- Assumes nothing.
-use mathlib.Core.Path.{sym, _∙_}
 use mathlib.Core.Bool.{Bool}
 use mathlib.Core.List.{List, [], _∷_}
 use Prim.Native.Nat.{ℕ}
 use lib.IntN.{ℤ}
 use lib.ListN.{length}
 use Rattle.listing.specs.Limits.{mostPorts, largest64}
-use Rattle.words.specs.Told.{Told}
 use Rattle.promise.specs.Campaign.{request, report, reportOn}
 use Rattle.pattern_check.specs.Calls.{checkAs}
 use Rattle.patterns.specs.Calls.{countOf, rankOf, unrankOf, unrankBytes, besideOf, besideBytes, stepOf}
@@ -22,16 +20,9 @@ use Rattle.plan_named.specs.Calls.{namedOf, namedNumbers}
 use Rattle.face_values.specs.Answers.{versionTold, nothing, oneNumber}
 use Rattle.face_values.specs.Lines.{moveWords, lineIn}
 use Rattle.face_values.specs.Only.{Only}
+use Rattle.face_values.proofs.Meets.{only}
 use Rattle.face_laws.specs.Values.{lineAndPlace, namesWords, orderAndBytes, bytesAndEnd, whereWords}
 use Rattle.face_laws.specs.Calls.{calledTold, calledWords, requestBytes, statusIn, ordersTold, ordersWords, ordersBytes, beginTold, beginWords, resumeTold, resumeWords, rehearseTold, rehearseWords}
-
--- one result meets the clauses of a contract
-only : {A : Type 0} (values : A → List ℕ) (told : Told A) (left : List (List ℕ)) → Only values told left
-only values told left r s m n = λ i. record {
-  number = (m .number ∙ sym (n .number)) i;
-  words = (m .words ∙ sym (n .words)) i;
-  left = (m .left ∙ sym (n .left)) i;
-}
 
 -- ---- the library
 

@@ -1,0 +1,3 @@
+-- What the contracts say, and that one result meets each.
+pub mod Contracts
+pub mod Only
