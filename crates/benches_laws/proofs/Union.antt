@@ -13,6 +13,7 @@ use borrow.Author.Tests.{eq-eqb}
 use Rattle.listing.specs.Pattern.{Derangement}
 use Rattle.listing.specs.Count.{count}
 use Rattle.listing.specs.Listing.{listing, at}
+use Rattle.listing.specs.Numbers.{Among}
 use Rattle.listing.specs.Limits.{mostPorts}
 use Rattle.listing.specs.Ends.{home}
 use Rattle.listing.proofs.Numbers.{either, test}
@@ -31,7 +32,7 @@ use Rattle.promise.proofs.Derangements.{circuit-on}
 use Rattle.benches_laws.specs.Shares.{together, inTurn, share, begins}
 use Rattle.benches_laws.specs.Plans.{legFrom, planOf, namedBy, namedByAll}
 use Rattle.benches_laws.specs.Calls.{mostBenches, perBench, coveredAt, openAt, errorsAt, Counts, sums, benchFits}
-use Rattle.benches_laws.specs.Union.{HistoryOf, countsLeft, marksRun, marksGivenUp, errorsTold, panelsOn, Ended, AllOnce, Union}
+use Rattle.benches_laws.specs.Union.{Did, Kept, countsLeft, marksRun, marksGivenUp, errorsTold, panelsOn, Ended, AllOnce, Union}
 use Rattle.benches_laws.proofs.Shares.{together-same, together-plus, all-shared}
 use Rattle.benches_laws.proofs.Plans.{plans-list}
 use Rattle.benches_laws.proofs.Sums.{turns-long, turn-at, none-fails, fits}
@@ -64,45 +65,50 @@ closed-few C s fit =
     (λ e. omega (arith, by-end true e))
     (λ e. omega (arith, by-end false e, number-below (C .legs) (s .leg) (s .step) (fit .leg) (fit .step)))
 
-module _ (n : ℕ) (width : Answer → ℕ) where
-  -- its state has what its history has
-  three : (o : Option Leg) (h : HistoryOf n width o) → length (countsLeft n width o h) ≡ perBench
-  three none h = refl
-  three (some l) h = refl
+-- its state has what its history has
+module _ (n : ℕ) (width : Answer → ℕ) (d : Did) where
+  three : (o : Option Leg) → length (countsLeft o d) ≡ perBench
+  three none = refl
+  three (some l) = refl
 
-  counts-run : (o : Option Leg) (h : HistoryOf n width o) → getD (countsLeft n width o h) 0 0 ≡ marksRun n width o h
+  -- where a bench has a plan, demand three holds
+  abbrev KeptOn : Option Leg → Type 0
+  KeptOn o = (l : Leg) → o ≡ some l → Kept n width l d
+
+  counts-run : (o : Option Leg) → KeptOn o → getD (countsLeft o d) 0 0 ≡ marksRun o d
   counts-run none h = refl
-  counts-run (some l) h = h .kept .coveredCounts
+  counts-run (some l) h = h l refl .coveredCounts
 
-  counts-given-up : (o : Option Leg) (h : HistoryOf n width o) → getD (countsLeft n width o h) 1 0 ≡ marksGivenUp n width o h
+  counts-given-up : (o : Option Leg) → KeptOn o → getD (countsLeft o d) 1 0 ≡ marksGivenUp o d
   counts-given-up none h = refl
-  counts-given-up (some l) h = h .kept .openReports
+  counts-given-up (some l) h = h l refl .openReports
 
-  counts-errors : (o : Option Leg) (h : HistoryOf n width o) → getD (countsLeft n width o h) 2 0 ≡ errorsTold n width o h
+  counts-errors : (o : Option Leg) → KeptOn o → getD (countsLeft o d) 2 0 ≡ errorsTold o d
   counts-errors none h = refl
-  counts-errors (some l) h = h .kept .errorReports
+  counts-errors (some l) h = h l refl .errorReports
 
   -- no more than its marks are closed, and errors stop
-  few-closed : (o : Option Leg) (h : HistoryOf n width o) → marksRun n width o h + marksGivenUp n width o h ≤ marksOf o
+  few-closed : (o : Option Leg) → KeptOn o → marksRun o d + marksGivenUp o d ≤ marksOf o
   unfolding marks
   few-closed none h = omega arith
   few-closed (some l) h =
-      omega (arith, h .kept .coveredCounts, h .kept .openReports, closed-few (onPorts n (l ∷ []) width) (h .left) (h .kept .leftFit))
+      let k = h l refl in
+      omega (arith, k .coveredCounts, k .openReports, closed-few (onPorts n (l ∷ []) width) (d .left) (k .leftFit))
 
-  few-errors : (o : Option Leg) (h : HistoryOf n width o) → errorsTold n width o h ≤ mostErrors
+  few-errors : (o : Option Leg) → KeptOn o → errorsTold o d ≤ mostErrors
   few-errors none h = omega arith
-  few-errors (some l) h = omega (arith, h .kept .errorReports, h .kept .errorsStop)
+  few-errors (some l) h = let k = h l refl in omega (arith, k .errorReports, k .errorsStop)
 
   -- when it has ended, all of its marks are closed, and its panels were the patterns that its plan names
-  all-closed : (o : Option Leg) (h : HistoryOf n width o) → Ended n width o h → marksRun n width o h + marksGivenUp n width o h ≡ marksOf o
+  all-closed : (o : Option Leg) → KeptOn o → Ended o d → marksRun o d + marksGivenUp o d ≡ marksOf o
   unfolding marks
   all-closed none h e = refl
-  all-closed (some l) h e = omega (arith, h .kept .coveredCounts, h .kept .openReports, h .kept .finishedCounts .0 e)
+  all-closed (some l) h e = let k = h l refl in omega (arith, k .coveredCounts, k .openReports, k .finishedCounts .0 e)
 
-  panels-named : (o : Option Leg) (h : HistoryOf n width o) → Ended n width o h → panelsOn n width o h ≡ map (at n) (namedBy n o)
+  panels-named : (o : Option Leg) → KeptOn o → Ended o d → panelsOn n o d ≡ map (at n) (namedBy n o)
   unfolding derangements
   panels-named none h e = refl
-  panels-named (some l) h e = ended-met (onPorts n (l ∷ []) width) (h .turned) (h .happened) (h .left) (h .kept) e
+  panels-named (some l) h e = ended-met (onPorts n (l ∷ []) width) (d .turned) (d .happened) (d .left) (h l refl) e
 
 -- ---- lists, bench after bench
 
@@ -140,64 +146,67 @@ list-once n ports ps e =
 
 -- ---- all benches
 
-module _ (n k : ℕ) (few : 2 ≤ n) (many : n ≤ mostPorts) (some-bench : 1 ≤ k) (most : k ≤ mostBenches)
-    (width : Answer → ℕ) (H : (b : ℕ) → HistoryOf n width (planOf n k b)) where
+module _ (n k : ℕ) (few : 2 ≤ n) (many : n ≤ mostPorts) (benches : Among mostBenches k) (width : Answer → ℕ) (D : ℕ → Did)
+    (kept : (b : ℕ) → b < k → (l : Leg) → planOf n k b ≡ some l → Kept n width l (D b)) where
+  some-bench : 0 < k
+  some-bench = benches .0
+
   abbrev counts : ℕ → List ℕ
-  counts b = countsLeft n width (planOf n k b) (H b)
+  counts b = countsLeft (planOf n k b) (D b)
 
   abbrev lent : List ℕ
   lent = inTurn counts k
 
   threes : (b : ℕ) → length (counts b) ≡ perBench
-  threes b = three n width (planOf n k b) (H b)
+  threes b = three n width (D b) (planOf n k b)
 
   plan-marks : (b : ℕ) → marksOf (planOf n k b) ≡ share (count n) k b
   unfolding planOf
   plan-marks b = marks-from (begins (count n) k b) (share (count n) k b)
 
   -- the three numbers of a bench are its own
-  covered-own : (b : ℕ) → b < k → coveredAt lent b ≡ marksRun n width (planOf n k b) (H b)
+  covered-own : (b : ℕ) → b < k → coveredAt lent b ≡ marksRun (planOf n k b) (D b)
   covered-own b h =
       let e : perBench * b ≡ perBench * b + 0 = omega arith in
-      ap (λ i. getD lent i 0) e ∙ turn-at counts threes k b 0 h (omega arith) ∙ counts-run n width (planOf n k b) (H b)
+      ap (λ i. getD lent i 0) e ∙ turn-at counts threes k b 0 h (omega arith) ∙ counts-run n width (D b) (planOf n k b) (kept b h)
 
-  open-own : (b : ℕ) → b < k → openAt lent b ≡ marksGivenUp n width (planOf n k b) (H b)
-  open-own b h = turn-at counts threes k b 1 h (omega arith) ∙ counts-given-up n width (planOf n k b) (H b)
+  open-own : (b : ℕ) → b < k → openAt lent b ≡ marksGivenUp (planOf n k b) (D b)
+  open-own b h = turn-at counts threes k b 1 h (omega arith) ∙ counts-given-up n width (D b) (planOf n k b) (kept b h)
 
-  errors-own : (b : ℕ) → b < k → errorsAt lent b ≡ errorsTold n width (planOf n k b) (H b)
-  errors-own b h = turn-at counts threes k b 2 h (omega arith) ∙ counts-errors n width (planOf n k b) (H b)
+  errors-own : (b : ℕ) → b < k → errorsAt lent b ≡ errorsTold (planOf n k b) (D b)
+  errors-own b h = turn-at counts threes k b 2 h (omega arith) ∙ counts-errors n width (D b) (planOf n k b) (kept b h)
 
   -- and can be
   own-fit : (b : ℕ) → b < k → benchFits (count n) k lent b ≡ true
   own-fit b h =
       fits (share (count n) k b) (coveredAt lent b) (openAt lent b) (errorsAt lent b)
-      (omega (arith, covered-own b h, open-own b h, few-closed n width (planOf n k b) (H b), plan-marks b))
-      (omega (arith, errors-own b h, few-errors n width (planOf n k b) (H b)))
+      (omega (arith, covered-own b h, open-own b h, few-closed n width (D b) (planOf n k b) (kept b h), plan-marks b))
+      (omega (arith, errors-own b h, few-errors n width (D b) (planOf n k b) (kept b h)))
 
   own-sums : sums lent k ≡ counted
-      (together (λ b. marksRun n width (planOf n k b) (H b)) k)
-      (together (λ b. marksGivenUp n width (planOf n k b) (H b)) k)
-      (together (λ b. errorsTold n width (planOf n k b) (H b)) k)
+      (together (λ b. marksRun (planOf n k b) (D b)) k)
+      (together (λ b. marksGivenUp (planOf n k b) (D b)) k)
+      (together (λ b. errorsTold (planOf n k b) (D b)) k)
   unfolding sums
   own-sums = counts-same
-      (together-same (coveredAt lent) (λ b. marksRun n width (planOf n k b) (H b)) k covered-own)
-      (together-same (openAt lent) (λ b. marksGivenUp n width (planOf n k b) (H b)) k open-own)
-      (together-same (errorsAt lent) (λ b. errorsTold n width (planOf n k b) (H b)) k errors-own)
+      (together-same (coveredAt lent) (λ b. marksRun (planOf n k b) (D b)) k covered-own)
+      (together-same (openAt lent) (λ b. marksGivenUp (planOf n k b) (D b)) k open-own)
+      (together-same (errorsAt lent) (λ b. errorsTold (planOf n k b) (D b)) k errors-own)
 
-  pub union : Union n k width H
+  pub union : Union n k D
   union = record {
     sums =
-        sym (sum-told n k lent (ports-good n few many) (among-one mostBenches k (some-bench, most)) (turns-long counts threes k))
+        sym (sum-told n k lent (ports-good n few many) (among-one mostBenches k benches) (turns-long counts threes k))
         ∙ sym (counts-added (count n) k lent (none-fails (benchFits (count n) k lent) k own-fit))
         ∙ ap accepted own-sums;
-    met = λ ended. list-once n few (inTurn (λ b. panelsOn n width (planOf n k b) (H b)) k)
-        (turns-same (λ b. panelsOn n width (planOf n k b) (H b)) (λ b. map (at n) (namedBy n (planOf n k b))) k
-        (λ b h. panels-named n width (planOf n k b) (H b) (ended b h))
+    met = λ ended. list-once n few (inTurn (λ b. panelsOn n (planOf n k b) (D b)) k)
+        (turns-same (λ b. panelsOn n (planOf n k b) (D b)) (λ b. map (at n) (namedBy n (planOf n k b))) k
+        (λ b h. panels-named n width (D b) (planOf n k b) (kept b h) (ended b h))
         ∙ turns-map (at n) (λ b. namedBy n (planOf n k b)) k
         ∙ plans-list n few k some-bench);
     whole = λ ended.
-        sym (together-plus (λ b. marksRun n width (planOf n k b) (H b)) (λ b. marksGivenUp n width (planOf n k b) (H b)) k)
-        ∙ together-same (λ b. marksRun n width (planOf n k b) (H b) + marksGivenUp n width (planOf n k b) (H b)) (share (count n) k) k
-        (λ b h. all-closed n width (planOf n k b) (H b) (ended b h) ∙ plan-marks b)
+        sym (together-plus (λ b. marksRun (planOf n k b) (D b)) (λ b. marksGivenUp (planOf n k b) (D b)) k)
+        ∙ together-same (λ b. marksRun (planOf n k b) (D b) + marksGivenUp (planOf n k b) (D b)) (share (count n) k) k
+        (λ b h. all-closed n width (D b) (planOf n k b) (kept b h) (ended b h) ∙ plan-marks b)
         ∙ all-shared (count n) k some-bench;
   }

@@ -13,7 +13,7 @@ use Rattle.listing.specs.Listing.{listing}
 use Rattle.listing.specs.Ends.{home}
 use Rattle.words.specs.Told.{accepted}
 use Rattle.promise.specs.Plan.{Leg}
-use Rattle.promise.specs.Campaign.{State, Answer, isRan, isError, isGaveUp, Setting}
+use Rattle.promise.specs.Campaign.{State, Answer, isRan, isError, isGaveUp}
 use Rattle.promise.specs.Bench.{Turn, Act, panelsMet, reports, reportedAs}
 use Rattle.promise.specs.Demand.{Demanded, Once}
 use Rattle.promise.specs.Derangements.{onPorts}
@@ -23,46 +23,43 @@ use Rattle.benches_laws.specs.Calls.{Counts, sumOf}
 
 -- ---- one bench
 
--- what was done with a plan: turns, what happened on the bench in them, the state that they left, and that demand three holds of them
-pub record History (C : Setting) : Type 0 where
+-- what calls did on a bench: the turns, what happened on the bench in them, and the state that they left
+pub record Did : Type 0 where
   pub turned : List Turn
   pub happened : List Act
   pub left : State
-  pub kept : Demanded C turned happened left
 
-module _ (n : ℕ) (width : Answer → ℕ) where
-  -- of a bench with this plan; without a plan there is nothing to tell
-  abbrev pub HistoryOf : Option Leg → Type 0
-  HistoryOf none = Unit {0}
-  HistoryOf (some l) = History (onPorts n (l ∷ []) width)
+-- demand three of it, for a bench with this plan
+abbrev pub Kept : ℕ → (Answer → ℕ) → Leg → Did → Type 0
+Kept n width l d = Demanded (onPorts n (l ∷ []) width) (d .turned) (d .happened) (d .left)
 
-  -- what its state counts, 'covered, open, errors in turn'; 'three zeros for a bench without a plan'
-  abbrev pub countsLeft : (o : Option Leg) → HistoryOf o → List ℕ
-  countsLeft none h = 0 ∷ 0 ∷ 0 ∷ []
-  countsLeft (some l) h = h .left .covered ∷ h .left .opened ∷ h .left .errors ∷ []
+-- what its state counts, 'covered, open, errors in turn'; 'three zeros for a bench without a plan'
+abbrev pub countsLeft : Option Leg → Did → List ℕ
+countsLeft none d = 0 ∷ 0 ∷ 0 ∷ []
+countsLeft (some l) d = d .left .covered ∷ d .left .opened ∷ d .left .errors ∷ []
 
-  -- its own history: the marks that were reported as run, those that were given up, the errors
-  abbrev pub marksRun : (o : Option Leg) → HistoryOf o → ℕ
-  marksRun none h = 0
-  marksRun (some l) h = length (reportedAs isRan none (h .happened))
+-- its own history: the marks that were reported as run, those that were given up, the errors; none without a plan
+abbrev pub marksRun : Option Leg → Did → ℕ
+marksRun none d = 0
+marksRun (some l) d = length (reportedAs isRan none (d .happened))
 
-  abbrev pub marksGivenUp : (o : Option Leg) → HistoryOf o → ℕ
-  marksGivenUp none h = 0
-  marksGivenUp (some l) h = reports isGaveUp (h .happened)
+abbrev pub marksGivenUp : Option Leg → Did → ℕ
+marksGivenUp none d = 0
+marksGivenUp (some l) d = reports isGaveUp (d .happened)
 
-  abbrev pub errorsTold : (o : Option Leg) → HistoryOf o → ℕ
-  errorsTold none h = 0
-  errorsTold (some l) h = reports isError (h .happened)
+abbrev pub errorsTold : Option Leg → Did → ℕ
+errorsTold none d = 0
+errorsTold (some l) d = reports isError (d .happened)
 
-  -- the panels at its marks, repeats struck out
-  abbrev pub panelsOn : (o : Option Leg) → HistoryOf o → List (List ℕ)
-  panelsOn none h = []
-  panelsOn (some l) h = panelsMet (home n) (h .happened)
+-- the panels at its marks, repeats struck out
+abbrev pub panelsOn : ℕ → Option Leg → Did → List (List ℕ)
+panelsOn n none d = []
+panelsOn n (some l) d = panelsMet (home n) (d .happened)
 
-  -- its campaign has ended; without a plan there is none
-  abbrev pub Ended : (o : Option Leg) → HistoryOf o → Type 0
-  Ended none h = Unit {0}
-  Ended (some l) h = h .left .ended ≡ true
+-- its campaign has ended; without a plan there is none
+abbrev pub Ended : Option Leg → Did → Type 0
+Ended none d = Unit {0}
+Ended (some l) d = d .left .ended ≡ true
 
 -- ---- all benches
 
@@ -75,16 +72,16 @@ pub record AllOnce (n : ℕ) (ps : List (List ℕ)) : Type 0 where
   pub noOther : (i : ℕ) → i < length ps → Derangement n (getD ps i [])
   pub many : length ps ≡ count n
 
--- the campaign of n ports over k benches, where bench b did what H b tells
-pub record Union (n k : ℕ) (width : Answer → ℕ) (H : (b : ℕ) → HistoryOf n width (planOf n k b)) : Type 0 where
+-- the campaign of n ports over k benches, where D b is what was done on bench b
+pub record Union (n k : ℕ) (D : ℕ → Did) : Type 0 where
   -- 'Where each three is what the calls on that bench's plan left in its state .., the answer must equal the sums over their own histories'
-  pub sums : sumOf n k (inTurn (λ b. countsLeft n width (planOf n k b) (H b)) k) ≡ accepted (record {
-    covered = together (λ b. marksRun n width (planOf n k b) (H b)) k;
-    opened = together (λ b. marksGivenUp n width (planOf n k b) (H b)) k;
-    errors = together (λ b. errorsTold n width (planOf n k b) (H b)) k;
+  pub sums : sumOf n k (inTurn (λ b. countsLeft (planOf n k b) (D b)) k) ≡ accepted (record {
+    covered = together (λ b. marksRun (planOf n k b) (D b)) k;
+    opened = together (λ b. marksGivenUp (planOf n k b) (D b)) k;
+    errors = together (λ b. errorsTold (planOf n k b) (D b)) k;
   })
   -- when every bench has ended, every derangement was met exactly once over all benches, repeats apart
-  pub met : ((b : ℕ) → b < k → Ended n width (planOf n k b) (H b)) → AllOnce n (inTurn (λ b. panelsOn n width (planOf n k b) (H b)) k)
+  pub met : ((b : ℕ) → b < k → Ended (planOf n k b) (D b)) → AllOnce n (inTurn (λ b. panelsOn n (planOf n k b) (D b)) k)
   -- and each of them is covered or open
-  pub whole : ((b : ℕ) → b < k → Ended n width (planOf n k b) (H b))
-      → together (λ b. marksRun n width (planOf n k b) (H b)) k + together (λ b. marksGivenUp n width (planOf n k b) (H b)) k ≡ count n
+  pub whole : ((b : ℕ) → b < k → Ended (planOf n k b) (D b))
+      → together (λ b. marksRun (planOf n k b) (D b)) k + together (λ b. marksGivenUp (planOf n k b) (D b)) k ≡ count n
