@@ -83,6 +83,27 @@ module _ (passes : ℕ → Bool) where
       earlier none d = d
       earlier (some c) d = absurd (none-some c (sym e ∙ first-stays k (suc k) c (omega arith) d))
 
+  -- one that is found is below k and does not pass, and each before it does
+  abbrev pub First : ℕ → ℕ → Type 0
+  First k b = (b < k) × (passes b ≡ false) × ((c : ℕ) → c < b → passes c ≡ true)
+
+  pub first-so : (k b : ℕ) → firstNot passes k ≡ some b → First k b
+  unfolding firstNot
+  first-so zero b e = absurd (none-some b e)
+  first-so (suc k) b e = by (firstNot passes k) refl (first-so k b)
+    where
+      by : (o : Option ℕ) → firstNot passes k ≡ o → (firstNot passes k ≡ some b → First k b) → First (suc k) b
+      by none d before =
+          either (test (passes k))
+          (λ t. absurd (none-some b (sym (still-none k d t) ∙ e)))
+          (λ t.
+          let found : some k ≡ some b = sym (first-now k d t) ∙ e in
+          let at : k ≡ b = cc in
+          (omega arith, subst (λ i. passes i ≡ false) at t, λ c h. all-pass k d c (omega arith)))
+      by (some c) d before =
+          let found : First k b = before (d ∙ sym (first-stays k (suc k) c (omega arith) d) ∙ e) in
+          (omega (arith, found .0), found .1, found .2)
+
 -- ---- counts that can be
 
 pub fit-so : (marks covered opened errors : ℕ) → countsFit marks covered opened errors ≡ true → (covered + opened ≤ marks) × (errors ≤ mostErrors)

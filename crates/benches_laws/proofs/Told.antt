@@ -1,7 +1,7 @@
 -- What the calls tell, case by case.
 -- Assumes nothing.
 use mathlib.Core.Path.{_≡_, refl, sym, ap, subst, _∙_}
-use mathlib.Core.Bool.{Bool, true, false, cond}
+use mathlib.Core.Bool.{Bool, true, false, cond, true≢false}
 use mathlib.Core.List.{List}
 use mathlib.Core.Option.{Option, none, some}
 use Prim.Native.Nat.{ℕ, suc, _+_, _*_, _≤_, _<_}
@@ -25,13 +25,24 @@ use Rattle.benches_laws.specs.Plans.{planOf}
 use Rattle.benches_laws.specs.Calls.{mostBenches, benched, shareOf, perBench, Counts, sums, benchFits, firstNot, unless, addedUp, sumOf}
 use Rattle.benches_laws.proofs.Shares.{share-ends}
 use Rattle.benches_laws.proofs.Plans.{plan-leg}
-use Rattle.benches_laws.proofs.Sums.{first-now, first-stays, AddedSo, added-all}
+use Rattle.benches_laws.proofs.Sums.{none-fails, first-now, first-stays, First, first-so, AddedSo, added-all}
 
 -- ---- ports and benches
 
 pub ports-good : (n : ℕ) → 2 ≤ n → n ≤ mostPorts → inSize mostPorts n ≡ true
 unfolding inSize
 ports-good n few many = within-true 2 mostPorts n few many
+
+-- ports that are not 2 to the most, and benches that are not 1 to 64, do not pass
+pub ports-bad : (n : ℕ) → ¬ ((2 ≤ n) × (n ≤ mostPorts)) → inSize mostPorts n ≡ false
+ports-bad n h = either (test (inSize mostPorts n)) (λ p. absurd (h (size-within mostPorts n (sym p) refl))) (λ p. p)
+
+pub benches-bad : (k : ℕ) → ¬ Among mostBenches k → oneOf mostBenches k ≡ false
+benches-bad k h = either (test (oneOf mostBenches k)) (λ q. absurd (h (one-of mostBenches k q))) (λ q. q)
+
+-- what is refused nowhere is not refused at a bench
+not-at : {A : Type 0} {i j b : ℕ} → _≡_ {A = Told A} (refused i nowhere) (refused j (atBench b)) → ⊥
+not-at e = true≢false (cc)
 
 module _ {A : Type 0} (n k : ℕ) (t : Told A) where
   pub ports-refused : inSize mostPorts n ≡ false → refused 1 nowhere ≡ benched n k t
@@ -54,6 +65,15 @@ module _ {A : Type 0} (n k : ℕ) (t : Told A) where
       (λ q. (size-within mostPorts n (sym p) refl, one-of mostBenches k q, benched-on p q ∙ e))
       (λ q. absurd (not-both (benches-refused p q ∙ e))))
       (λ p. absurd (not-both (ports-refused p ∙ e)))
+
+  -- and so has what is refused at a bench
+  pub benched-at : (i b : ℕ) → benched n k t ≡ refused i (atBench b) → t ≡ refused i (atBench b)
+  benched-at i b e =
+      either (test (inSize mostPorts n))
+      (λ p. either (test (oneOf mostBenches k))
+      (λ q. benched-on p q ∙ e)
+      (λ q. absurd (not-at (benches-refused p q ∙ e))))
+      (λ p. absurd (not-at (ports-refused p ∙ e)))
 
 -- ---- the share of a bench
 
@@ -107,3 +127,38 @@ module _ (n k : ℕ) (ns : List ℕ) (e : inSize mostPorts n ≡ true) (f : oneO
   unfolding sumOf
   sum-told h =
       sym (rw (eq-eqb (length ns) (perBench * k) h) refl) ∙ benched-on n k (cond (eqb (length ns) (perBench * k)) (addedUp (count n) k ns) (refused 21 nowhere)) e f
+
+  -- 27 at the first bench whose counts cannot be, and the sums where there is none
+  pub first-refused : length ns ≡ perBench * k → (b : ℕ) → First (benchFits (count n) k ns) k b → sumOf n k ns ≡ refused 27 (atBench b)
+  first-refused h b F =
+      let before : firstNot (benchFits (count n) k ns) b ≡ none = none-fails (benchFits (count n) k ns) b (F .2) in
+      sym (counts-refused (count n) k ns b (F .0) before (F .1) ∙ sum-told h)
+
+  pub sum-added : length ns ≡ perBench * k → ((b : ℕ) → b < k → benchFits (count n) k ns b ≡ true) → sumOf n k ns ≡ accepted (sums ns k)
+  sum-added h all = sym (counts-added (count n) k ns (none-fails (benchFits (count n) k ns) k all) ∙ sum-told h)
+
+module _ (n k : ℕ) (ns : List ℕ) where
+  -- 'of other lent numbers it is the plain sums': whatever is accepted
+  pub sum-plain : (c : Counts) → sumOf n k ns ≡ accepted c → c ≡ sums ns k
+  unfolding sumOf addedUp
+  sum-plain c e =
+      by (eqb (length ns) (perBench * k)) (firstNot (benchFits (count n) k ns) k)
+      (benched-good n k (cond (eqb (length ns) (perBench * k)) (addedUp (count n) k ns) (refused 21 nowhere)) c e .2)
+    where
+      by : (three : Bool) (o : Option ℕ) → cond three (unless o (sums ns k)) (refused 21 nowhere) ≡ accepted c → c ≡ sums ns k
+      by true none x = sym (accepted-once x)
+      by true (some b) x = absurd (not-both x)
+      by false o x = absurd (not-both x)
+
+  -- '27 for the first bench' whose counts cannot be: the bench at which it is told is that one
+  pub sum-first : (b : ℕ) → sumOf n k ns ≡ refused 27 (atBench b) → First (benchFits (count n) k ns) k b
+  unfolding sumOf addedUp
+  sum-first b e =
+      first-so (benchFits (count n) k ns) k b
+      (by (eqb (length ns) (perBench * k)) (firstNot (benchFits (count n) k ns) k)
+      (benched-at n k (cond (eqb (length ns) (perBench * k)) (addedUp (count n) k ns) (refused 21 nowhere)) 27 b e))
+    where
+      by : (three : Bool) (o : Option ℕ) → cond three (unless o (sums ns k)) (refused 21 nowhere) ≡ refused 27 (atBench b) → o ≡ some b
+      by true none x = absurd (true≢false (cc))
+      by true (some c) x = cc
+      by false o x = absurd (not-at x)

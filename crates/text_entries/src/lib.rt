@@ -79,7 +79,7 @@ fn more(found: Read, next: usize) -> Entry
 }
 
 // The entry that begins at a place of a text.
-fn entry_at(t: &[u8], at: usize) -> Entry
+pub fn entry_at(t: &[u8], at: usize) -> Entry
     requires { ⌜ at ≤ length (now t) ⌝ }
     ensures { λ r. ⌜ EntryOf largest64 (now (t .entry)) at r ⌝ }
 {

@@ -1,0 +1,2 @@
+-- Request 8 is proved.
+pub mod Over
