@@ -1,4 +1,3 @@
--- The counts of benches, read; what is printed; what is asked, and what is told of it.
+-- The counts of benches, read; what is printed.
 pub mod Reading
 pub mod Text
-pub mod Asked

@@ -1,16 +1,15 @@
--- What the command prints: a line for each bench, a bench's plan, or the sums; a refusal is its number and its place, and nothing else.
+-- What the command prints: a line for each bench, or the sums. A bench's plan is the text of that plan (`plans.Grammar.planText`), and a refusal its number and its
+-- place (`line_refusal.Text.refusalText`).
 -- Assumes nothing.
 use Prim.Native.Nat.{ℕ, zero, suc}
 use mathlib.Core.List.{List, [], _∷_, _++_}
 use mathlib.Core.Option.{Option, none, some}
-use Rattle.words.specs.Told.{Told, accepted, refused, spotNumber}
 use Rattle.promise.specs.Plan.{Leg}
 use Rattle.text_numbers.specs.Decimal.{digitsOf}
 use Rattle.text_keys.specs.Parts.{newline}
 use Rattle.plan_lines.specs.Field.{fieldText}
 use Rattle.line_refusal.specs.Words.{quoted}
-use Rattle.line_refusal.specs.Text.{refusalText}
-use Rattle.benches_laws.specs.Plans.{planOf, onePlanText}
+use Rattle.benches_laws.specs.Plans.{planOf}
 use Rattle.benches_laws.specs.Calls.{Counts}
 
 -- the end of a line
@@ -31,21 +30,11 @@ unfoldable pub benchLines : ℕ → ℕ → ℕ → ℕ → List ℕ
 benchLines n k b zero = []
 benchLines n k b (suc left) = benchLine b (planOf n k b) ++ benchLines n k (suc b) left
 
--- a bench's plan, 'ready for bin/orders'; its line where it has none
-abbrev pub planLines : ℕ → ℕ → Option Leg → List ℕ
-planLines n b none = benchLine b none
-planLines n b (some l) = onePlanText n l
-
 -- the sums, of how many patterns
 unfoldable pub sumLines : Counts → ℕ → List ℕ
 sumLines c of =
     fieldText (quoted "covered=") (digitsOf (c .covered))
     ++ (fieldText (quoted "open=") (digitsOf (c .opened)) ++ (fieldText (quoted "errors=") (digitsOf (c .errors)) ++ fieldText (quoted "of=") (digitsOf of)))
-
--- what is printed of what is told
-abbrev pub printed : Told (List ℕ) → List ℕ
-printed (accepted t) = t
-printed (refused k s) = refusalText k (spotNumber s)
 
 -- ANSWER_BYTES: no answer is longer
 abbrev pub mostAnswer : ℕ
