@@ -32,7 +32,7 @@ use words::Leg;
 ghost use Prim.Native.Nat.{_≤_};
 ghost use lib.ListN.{length};
 ghost use Rattle.listing.specs.Limits.{mostPorts};
-ghost use Rattle.benches_writing.specs.Lines.{Good};
+ghost use Rattle.benches_laws.specs.Calls.{Good};
 
 // How many bytes are read: the line of the question, and the counts that are judged.
 const READ: usize = 4164;
@@ -42,11 +42,18 @@ const MOST_LINES: usize = 64;
 
 const MOST_NUMBERS: usize = 192;
 
+// So many bytes at the front of a buffer; whether they could be written.
+fn print_front(buf: &[u8], n: usize) -> bool
+    requires { ⌜ n ≤ length (now buf) ⌝ }
+{
+    written(b"benches", &buf[..n])
+}
+
 // A refusal, by its number and its place.
 fn print_refusal(number: u8, place: u64) {
     let mut buf = [0u8; ANSWER_BYTES];
     let n = put_refusal(number, place, &mut buf);
-    if written(b"benches", &buf[..n]) {
+    if print_front(&buf, n) {
         tell_number(b"refused=", number as u64);
         tell_number(b"at=", place);
     }
@@ -62,7 +69,7 @@ fn print_lines(ports: u64, benches: u64)
 {
     let mut buf = [0u8; ANSWER_BYTES];
     let n = put_shares(ports, benches, &mut buf);
-    if written(b"benches", &buf[..n]) {
+    if print_front(&buf, n) {
         printed();
     }
 }
@@ -71,7 +78,7 @@ fn print_lines(ports: u64, benches: u64)
 fn print_no_plan(bench: u64) {
     let mut buf = [0u8; ANSWER_BYTES];
     let n = put_no_plan(bench, &mut buf);
-    if written(b"benches", &buf[..n]) {
+    if print_front(&buf, n) {
         printed();
     }
 }
@@ -80,7 +87,7 @@ fn print_no_plan(bench: u64) {
 fn print_plan(ports: u64, l: Leg) {
     let mut buf = [0u8; ANSWER_BYTES];
     let n = put_plan(ports, l, &mut buf);
-    if written(b"benches", &buf[..n]) {
+    if print_front(&buf, n) {
         printed();
     }
 }
@@ -89,7 +96,7 @@ fn print_plan(ports: u64, l: Leg) {
 fn print_sums(c: Counts, of: u64) {
     let mut buf = [0u8; ANSWER_BYTES];
     let n = put_sums(c, of, &mut buf);
-    if written(b"benches", &buf[..n]) {
+    if print_front(&buf, n) {
         printed();
     }
 }

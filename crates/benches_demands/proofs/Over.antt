@@ -28,7 +28,7 @@ use Rattle.demands.proofs.Three.{demand-left}
 use Rattle.demands.proofs.Words.{demand-words}
 use Rattle.benches_laws.specs.Shares.{together}
 use Rattle.benches_laws.specs.Plans.{planOf, onePlan, onePlanText}
-use Rattle.benches_laws.specs.Calls.{mostBenches, benched, shareOf, perBench, Counts, sums, benchFits, firstNot, unless, addedUp, sumOf}
+use Rattle.benches_laws.specs.Calls.{mostBenches, Good, benched, shareOf, perBench, Counts, sums, benchFits, firstNot, unless, addedUp, sumOf}
 use Rattle.benches_laws.specs.Union.{Kept, Union}
 use Rattle.benches_laws.proofs.Shares.{shares-fair, only-shares}
 use Rattle.benches_laws.proofs.Plans.{plan-leg, left-over, plans-name, plans-list, plan-accepted}
@@ -36,7 +36,7 @@ use Rattle.benches_laws.proofs.Told.{ports-good, ports-bad, benches-bad, ports-
 use Rattle.benches_laws.proofs.Told.{numbers-refused, first-refused, sum-added}
 use Rattle.benches_laws.proofs.Union.{union}
 use Rattle.benches_demands.specs.Calls.{textOf, didOn, didIn, onBench, onBenchIn}
-use Rattle.benches_demands.specs.Over.{Good, OverBenches}
+use Rattle.benches_demands.specs.Over.{OverBenches}
 
 -- ---- the numbers of the refusals
 

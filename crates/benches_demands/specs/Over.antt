@@ -17,17 +17,13 @@ use Rattle.promise.specs.Plan.{Leg}
 use Rattle.plans.specs.Calls.{readPlanOf}
 use Rattle.benches_laws.specs.Shares.{share, begins, Fair}
 use Rattle.benches_laws.specs.Plans.{planOf, onePlan, onePlanText, namedByAll, from}
-use Rattle.benches_laws.specs.Calls.{mostBenches, shareOf, perBench, Counts, sums, benchFits, sumOf}
+use Rattle.benches_laws.specs.Calls.{mostBenches, Good, shareOf, perBench, Counts, sums, benchFits, sumOf}
 use Rattle.benches_laws.proofs.Plans.{LegOf}
 use Rattle.benches_laws.specs.Union.{Union}
 use Rattle.campaign_reached.specs.Turns.{Called}
 use Rattle.face_state.specs.States.{stateCount}
 use Rattle.demands.specs.One.{Refuses}
 use Rattle.benches_demands.specs.Calls.{onBench, onBenchIn}
-
--- ports and benches that are not refused
-abbrev pub Good : ℕ → ℕ → Type 0
-Good n k = ((2 ≤ n) × (n ≤ mostPorts)) × Among mostBenches k
 
 pub record OverBenches : Type 0 where
   -- ---- the shares

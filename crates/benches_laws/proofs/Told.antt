@@ -22,7 +22,7 @@ use Rattle.pattern_check.specs.Calls.{inSize, sized}
 use Rattle.pattern_check.proofs.Calls.{size-within}
 use Rattle.promise.specs.Plan.{Leg}
 use Rattle.benches_laws.specs.Plans.{planOf}
-use Rattle.benches_laws.specs.Calls.{mostBenches, benched, shareOf, perBench, Counts, sums, benchFits, firstNot, unless, addedUp, sumOf}
+use Rattle.benches_laws.specs.Calls.{mostBenches, Good, benched, shareOf, perBench, Counts, sums, benchFits, firstNot, unless, addedUp, sumOf}
 use Rattle.benches_laws.proofs.Shares.{share-ends}
 use Rattle.benches_laws.proofs.Plans.{plan-leg}
 use Rattle.benches_laws.proofs.Sums.{none-fails, first-now, first-stays, First, first-so, AddedSo, added-all}
@@ -85,6 +85,13 @@ module _ (n k b : ℕ) (e : inSize mostPorts n ≡ true) (f : oneOf mostBenches 
   pub share-told : b < k → accepted (planOf n k b) ≡ shareOf n k b
   unfolding shareOf
   share-told h = sym (rw (lt-ltb b k h) refl) ∙ benched-on n k (cond (ltb b k) (accepted (planOf n k b)) (refused 22 nowhere)) e f
+
+-- what is told of a bench has good ports and good benches
+pub share-good : (n k b : ℕ) (o : Option Leg) → shareOf n k b ≡ accepted o → Good n k
+unfolding shareOf
+share-good n k b o e =
+    let B = benched-good n k (cond (ltb b k) (accepted (planOf n k b)) (refused 22 nowhere)) o e in
+    (B .0, B .1)
 
 -- a run that is told is below 64 bits: it is one less than a share of the patterns
 pub run-small : (n k b : ℕ) (l : Leg) → shareOf n k b ≡ accepted (some l) → l .run < largest64

@@ -1,11 +1,12 @@
 -- What the calls on several benches tell, for accepted and refused calls alike (request 8).
 -- Assumes nothing.
-use Prim.Native.Nat.{ℕ, zero, suc, _+_, _*_}
+use Prim.Native.Nat.{ℕ, zero, suc, _+_, _*_, _≤_}
 use mathlib.Core.Bool.{Bool, cond, _&&_}
 use mathlib.Core.List.{List}
 use mathlib.Core.Option.{Option, none, some}
 use lib.Dec.{eqb, leb, ltb}
 use lib.ListN.{length, getD}
+use Rattle.listing.specs.Numbers.{Among}
 use Rattle.listing.specs.Count.{count}
 use Rattle.listing.specs.Limits.{mostPorts}
 use Rattle.words.specs.Told.{Told, accepted, refused, nowhere, atBench}
@@ -19,6 +20,10 @@ use Rattle.benches_laws.specs.Plans.{planOf}
 -- 'a number of benches from 1 to 64'
 abbrev pub mostBenches : ℕ
 mostBenches = 64
+
+-- ports and benches that are not refused
+abbrev pub Good : ℕ → ℕ → Type 0
+Good n k = ((2 ≤ n) × (n ≤ mostPorts)) × Among mostBenches k
 
 -- 'Refusals: 1, then 21 bench count outside 1 to 64'
 unfoldable pub benched : {A : Type 0} → ℕ → ℕ → Told A → Told A

@@ -17,12 +17,12 @@ use Rattle.line_putting.specs.Putting.{Puts}
 use Rattle.line_putting.proofs.Putting.{Going, puts-as, going-room, going-on, going-over}
 use Rattle.benches_laws.specs.Shares.{share, begins}
 use Rattle.benches_laws.specs.Plans.{planOf}
-use Rattle.benches_laws.specs.Calls.{mostBenches, shareOf}
+use Rattle.benches_laws.specs.Calls.{mostBenches, Good, shareOf}
 use Rattle.benches_laws.proofs.Shares.{share-ends}
 use Rattle.benches_laws.proofs.Plans.{LegOf, plan-leg}
 use Rattle.benches_laws.proofs.Told.{ports-good, share-told}
 use Rattle.benches_text.specs.Text.{ended, said, benchLine, benchLines, mostAnswer}
-use Rattle.benches_writing.specs.Lines.{shareLine, Good}
+use Rattle.benches_writing.specs.Lines.{shareLine}
 use Rattle.benches_writing.proofs.Short.{said-most}
 
 -- ---- how long they are

@@ -18,9 +18,10 @@ ghost use Rattle.plan_rules.specs.Rules.{legIs};
 ghost use Rattle.line_putting.specs.Putting.{Puts};
 ghost use Rattle.line_refusal.specs.Text.{refusalText};
 ghost use Rattle.benches_laws.specs.Plans.{onePlanText};
+ghost use Rattle.benches_laws.specs.Calls.{Good};
 ghost use Rattle.benches_calls.specs.Answers.{shareTold, countsAre};
 ghost use Rattle.benches_text.specs.Text.{benchLine, benchLines, sumLines, mostAnswer};
-ghost use Rattle.benches_writing.specs.Lines.{shareLine, Good};
+ghost use Rattle.benches_writing.specs.Lines.{shareLine};
 
 // No answer is longer.
 pub const ANSWER_BYTES: usize = 5056;
