@@ -1,5 +1,5 @@
 # What the drawers share: the facts, lines of key=value on standard input, read into variables; the move carried out on the panel; the gaps; their words.
-# Ranks, counts and mark numbers are kept as text, and added and compared digit by digit: they go beyond the whole numbers that awk holds.
+# Ranks, counts and mark numbers are kept as text, since they go beyond the whole numbers that awk holds: numbers.awk adds and compares them.
 # `name` is the command's. The environment has what a drawing is called, `title`, as it is.
 BEGIN {
     FS = "[=,]"
@@ -130,54 +130,6 @@ function filled(piece, n, width, line,    i, k) {
         if (k > 0 && length(line[k]) + 1 + length(piece[i]) <= width) line[k] = line[k] " " piece[i]
         else line[++k] = piece[i]
     return k + 0
-}
-
-# whether the one decimal is below the other
-function below(a, b) { return length(a) != length(b) ? length(a) < length(b) : (a "") < (b "") }
-
-# a decimal with zeros before it, so many digits long; and without them
-function padded(a, wide) { while (length(a) < wide) a = "0" a; return a }
-function plain(a) { sub(/^0+/, "", a); return a == "" ? "0" : a }
-
-# two decimals added
-function plus(a, b,    wide, i, digit, over, sum) {
-    wide = length(a) > length(b) ? length(a) : length(b)
-    a = padded(a, wide)
-    b = padded(b, wide)
-    for (i = wide; i > 0; i--) {
-        digit = substr(a, i, 1) + substr(b, i, 1) + over
-        sum = (digit % 10) sum
-        over = int(digit / 10)
-    }
-    return plain(over sum)
-}
-
-# a decimal less another that is not above it
-function minus(a, b,    i, digit, owed, rest) {
-    b = padded(b, length(a))
-    for (i = length(a); i > 0; i--) {
-        digit = substr(a, i, 1) - substr(b, i, 1) - owed
-        owed = digit < 0
-        rest = (digit + 10 * owed) rest
-    }
-    return plain(rest)
-}
-
-# k of so many equal parts of a decimal, rounded down: k times as much digit by digit from the right, then divided from the left
-function share(text, k, parts,    i, left, more, part) {
-    for (i = length(text); i > 0; i--) {
-        left = substr(text, i, 1) * k + left
-        more = (left % 10) more
-        left = int(left / 10)
-    }
-    more = left more
-    left = 0
-    for (i = 1; i <= length(more); i++) {
-        left = left * 10 + substr(more, i, 1)
-        part = part int(left / parts)
-        left = left % parts
-    }
-    return plain(part)
 }
 
 # a leg: how many steps it takes, whether it runs backward, whether it meets every pattern, whether it passes from one end of the list to the other

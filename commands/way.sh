@@ -6,6 +6,9 @@
 #   usage         a function: how it is called and what it does, the first part of its help
 #   own_options   a text: its own options, for the help
 #   own_option    a function: takes an option of its own from its arguments, sets `taken` to how many it took, or fails if it knows none such
+# After that it may set anew what stands here as it is for most:
+#   header        the header of include/ whose version the command has
+#   own_word      a function: takes a word of the command line that is no option; `given` counts them
 # and then calls, in this order: options "$@"; build; spool, or stream where what is read may be of any length; run; finish.
 #
 # A Rattle program has no exit status. It tells on descriptor 3 how it ended (crates/console), and the statuses are given here:
@@ -73,7 +76,14 @@ $pipe_gone the reader of the output went away, $bad_usage bad usage, $not_built 
 HELP
 }
 
+header=jidrofex
 file=-
+own_word() {
+    [ "$given" -eq 0 ] || give_up "$bad_usage" "one file at most; $name --help says more"
+    given=1
+    file=$1
+}
+
 words=asked
 quiet=no
 options() {
@@ -86,7 +96,7 @@ options() {
                 exit "$printed_all"
                 ;;
             --version)
-                sed -n "s/.*JIDROFEX_VERSION = \([0-9]*\).*/$name (Jidrofex) version \1/p" "$root/include/jidrofex.h" 2>/dev/null ||
+                sed -n "s/.*$(echo "$header" | tr a-z A-Z)_VERSION = \([0-9]*\).*/$name (Jidrofex) version \1/p" "$root/include/$header.h" 2>/dev/null ||
                     give_up "$unwritten" "$not_written"
                 exit "$printed_all"
                 ;;
@@ -94,16 +104,11 @@ options() {
             --quiet) words=off quiet=yes ;;
             --)
                 shift
-                [ $# -le $((1 - given)) ] || give_up "$bad_usage" "one file at most; $name --help says more"
-                [ $# -eq 0 ] || given=1 file=$1
+                for word; do own_word "$word"; done
                 break
                 ;;
             -?*) own_option "$@" || give_up "$bad_usage" "no such option: $1; $name --help lists them" ;;
-            *)
-                [ "$given" -eq 0 ] || give_up "$bad_usage" "one file at most; $name --help says more"
-                given=1
-                file=$1
-                ;;
+            *) own_word "$1" ;;
         esac
         shift "$taken"
     done
@@ -114,6 +119,13 @@ options() {
 value() {
     [ -n "${2-}" ] || give_up "$bad_usage" "$1 needs a value; $name --help says which"
     taken=2
+}
+
+# number WHAT VALUE: bad usage unless the value is a number as plans have them
+number() {
+    case $2 in
+        '' | *[!0-9]* | 0?*) give_up "$bad_usage" "$1 needs a number, and has $2" ;;
+    esac
 }
 
 # ---- ending
@@ -347,7 +359,7 @@ finish() {
         refused)
             [ "$words" = off ] ||
                 awk -v name="$name" -v asked="$asked" -v number="$number" -v place="$place" -v earlier="$earlier" -v jack="$jack" -v held="$held" \
-                    -v bytes="$(wc -c <"$work/text")" -f "$root/commands/words.awk" "$work/text" >&2
+                    -v bytes="$(wc -c <"$work/text")" -f "$root/commands/numbers.awk" -f "$root/commands/words.awk" "$work/text" >&2
             exit "$was_refused"
             ;;
         unreadable) exit "$unreadable" ;;

@@ -1,45 +1,30 @@
 # A refusal in words, for people: `number`, `place` and `earlier`, the second number, as the program told them; what was read on standard input, `bytes` long.
 # `asked` is what was asked for: a plan; a mark of a plan, whose line stands before the plan's own; a rank, which stands in the plan of one leg that starts
-# there; a pattern; the entries of a pattern alone, whose words are printed already; or a line of those that are translated, whose first 58 bytes alone are
-# read here, less those that are 0: `place` is then its number, `jack` the jack at fault, and `held` the ports that hold there, 0 for none. Each line begins
-# with the command's `name`. The first says what is wrong and where, those after it what often makes it so.
+# there; a pattern; the entries of a pattern alone, whose words are printed already; a line of those that are translated, whose first 58 bytes alone are
+# read here, less those that are 0: `place` is then its number, `jack` the jack at fault, and `held` the ports that hold there, 0 for none; or benches, whose
+# question stands before the counts. Each line begins with the command's `name`. The first says what is wrong and where, those after it what often makes it so.
 
 { line[NR] = $0; whole += length($0) + 1 }
 
 END {
-    first = asked == "mark" || asked == "rank"
+    first = asked == "mark" || asked == "rank" || asked == "benches"
     here = asked == "line" ? line[1] : line[place + first]
     if (asked == "entries") entry_hints()
     else if (asked == "pattern") tell(pattern_words(place))
     else if (asked == "rank") tell(rank_words())
+    else if (asked == "benches") tell_benches()
     else if (asked == "line") {
         tell("line " place ": " line_words())
-        hints(place == 1 ? here : "", "such a file", "the =, a number or a comma", "no - before a number", number == 11)
+        hints(place == 1 ? here : "", "such a file", "the key, the =, a number or a comma", "no - before a number", number == 11)
     } else if (place == 0) tell(number == 8 ? "the mark's number is above 64 bits" : "the plan has no such mark: show of the plan alone says which it has")
     else {
         tell("line " place ": " plan_words())
-        hints(line[1 + first], "a plan", "the = or the number", "- stands only before a run that is not 0", number == 11 && unended())
+        hints(line[1 + first], "a plan", "the key, the = or the number", "- stands only before a run that is not 0", number == 11 && unended())
     }
 }
 
 function tell(words) { print name ": " words }
 function hint(words) { tell("hint: " words) }
-
-# ---- numbers as they are, of any length: the highest rank of n ports is the count less one, in two parts of nine digits
-
-function highest_rank(n,  high, low, high_before, low_before, k, h, l) {
-    high_before = low_before = high = 0
-    low = 1
-    for (k = 3; k <= n + 0; k++) {
-        l = (low + low_before) * (k - 1)
-        h = (high + high_before) * (k - 1) + int(l / 1000000000)
-        high_before = high
-        low_before = low
-        high = h
-        low = l % 1000000000
-    }
-    return high > 0 ? high sprintf("%09d", low - 1) : low - 1
-}
 
 # ---- what is wrong
 
@@ -47,6 +32,9 @@ function ports() { return asked == "line" ? held : substr(line[1 + first], 7) }
 function legs() { return substr(line[2 + first], 6) }
 function key_due(at) { return at == 1 ? "ports=" : at == 2 ? "legs=" : at % 2 ? "start=" : "run=" }
 function last_line() { return 2 + 2 * legs() }
+
+# the highest rank of n ports; numbers.awk has numbers of any length
+function highest_rank(n) { return minus(patterns(n + 0), "1") }
 
 # the last line, at fault, is there without its newline
 function unended() { return place + first == NR && whole > bytes }
@@ -125,6 +113,50 @@ function line_words(  key) {
 }
 function long_words() { return "the line is longer than any good one, which has 58 bytes at most" }
 
+# ---- the benches: their number and what follows from it, or a line of counts
+
+function tell_benches(    part, benches, lines) {
+    split(line[1], part, "[=,]")
+    benches = part[3]
+    lines = NR - 1
+    if (number == 1) tell(ports_words())
+    else if (number == 22) tell("there is no such bench: " many_benches(benches) (benches == 1 ? " has the number 0" : " have the numbers 0 to " (benches - 1)))
+    else if (number == 27) tell("bench " place ": " counts_words(patterns(part[2] + 0), benches))
+    else if (number == 21 && (below(benches, "1") || below("64", benches))) tell("the benches are not 1 to 64")
+    else if (number == 21) {
+        tell((lines == 0 ? "there are no counts" : lines == 1 ? "there is 1 line of counts" : "there are " lines " lines of counts") " for " many_benches(benches))
+        hint("one line for each bench, from bench 0 on; 0,0,0 for one without a plan")
+    } else {
+        tell("line " place ": " (number == 11 ? unended_counts_words() : counts_line_words()))
+        hints(place == 1 ? here : "", "such a file", "a number or a comma", "no - before a number", number == 11 && counts_bytes() < 4096)
+        if (below(benches, place)) hint("one line for each bench, and " many_benches(benches) (benches == 1 ? " has" : " have") " no line " place)
+    }
+}
+
+function many_benches(benches) { return benches (benches == 1 ? " bench" : " benches") }
+
+# 27: a bench's own line and its share
+function counts_words(count, benches,    part, closed, marks) {
+    split(line[place + 2], part, ",")
+    closed = plus(part[1], part[2])
+    marks = dealt(count, place + 0, benches)
+    if (below(marks, closed)) return "covered " part[1] " and open " part[2] " make " closed ", and " (marks == "0" ? "it has no plan" : "its share is " marks)
+    return "the errors are " part[3] ", and a campaign counts 65535 at most"
+}
+
+# a line of counts that is none
+function counts_line_words(    entry, n, written) {
+    n = split(here, entry, ",")
+    written = written_as(entry, n)
+    if (written == "badly") return "it is not three plain decimal numbers with commas between them"
+    if (n != 3) return "it has " n (n == 1 ? " number" : " numbers") ", and covered, open and errors are three"
+    return "a number is above 64 bits"
+}
+
+# the first 4096 bytes of the counts are read
+function counts_bytes() { return bytes - length(line[1]) - 1 }
+function unended_counts_words() { return counts_bytes() < 4096 ? unended_words() : "it has no newline within the first 4096 bytes" }
+
 # ---- what often makes it so: of a text by its front, with its own words for what it is, where blanks stand, and a minus
 
 function front_hints(front) {
@@ -132,15 +164,17 @@ function front_hints(front) {
     else if (front ~ /^(\377\376|\376\377)/) hint("the file is in UTF-16; save it as plain text")
 }
 
-function hints(front, it, blanks, minus, no_end) {
+function hints(front, it, blanks, signed, no_end,    text) {
     front_hints(front)
+    text = (asked == "benches" ? "," : "") here
     if (here ~ /\r$/) hint("the lines end in carriage returns; save the file with plain newlines")
     else if (here ~ /^[ \t]*(#|;|\/\/)/) hint("line " place " is a comment, and " it " has none")
     else if ((asked == "line" || place + first <= NR) && here ~ /^[ \t]*$/) hint("line " place " is blank, and " it " has no blank lines")
-    else if (here ~ /[ \t]/) hint("no blanks before or after the key, " blanks)
-    else if (number == 8 && here ~ /[=,]-?0[0-9]/) hint("no leading zero")
-    else if (number == 8 && here ~ /[=,]\+/) hint("no plus before a number")
-    else if (number == 8 && here ~ /[=,]-/) hint(minus)
+    else if (asked == "benches" && match(here, /[a-z]+=/)) hint("the numbers alone, without " substr(here, RSTART, RLENGTH))
+    else if (here ~ /[ \t]/) hint("no blanks before or after " blanks)
+    else if (number == 8 && text ~ /[=,]-?0[0-9]/) hint("no leading zero")
+    else if (number == 8 && text ~ /[=,]\+/) hint("no plus before a number")
+    else if (number == 8 && text ~ /[=,]-/) hint(signed)
     if (no_end) hint("end the last line with a newline, as the others")
 }
 

@@ -6,6 +6,7 @@ T=$commands_out
 for command in orders show named; do bin/$command --quiet plans/two-ports >/dev/null || fail "commands: bin/$command does not run"; done
 bin/translate --quiet examples/lab/numbers >/dev/null || fail 'commands: bin/translate does not run'
 echo 2,1 | bin/explain --quiet >/dev/null || fail 'commands: bin/explain does not run'
+bin/benches --quiet 2 1 >/dev/null || fail 'commands: bin/benches does not run'
 
 # the files of the table
 commands_file() { printf "$2" >"$T/$1"; }
@@ -95,6 +96,39 @@ commands_file pattern-own '5,4,3,2,1\n'
 cp "$T/pattern" "$T/-pattern"
 cp "$T/pattern" "$T/a pattern"
 ln -s "$root/bin/explain" "$T/link-explain"
+# counts of benches: of 4 with 6 ports, whose shares are 67, 66, 66 and 66 marks, most with a good line before the one at fault; of 2 with 20 ports
+counts_file() { commands_file "counts$1" "67,0,0\n$2"; }
+counts_file '' '66,0,3\n40,2,0\n0,0,0\n'
+counts_file -all '66,0,0\n66,0,0\n66,0,0\n'
+counts_file -open '66,0,0\n0,66,0\n60,6,1\n'
+counts_file -share '60,7,0\n66,0,0\n66,0,0\n'
+counts_file -errors '66,0,65536\n66,0,0\n66,0,0\n'
+counts_file -few '66,0,0\n66,0,0\n'
+counts_file -one ''
+counts_file -many '66,0,0\n66,0,0\n66,0,0\n0,0,0\n'
+counts_file -decimal 'all,0,0\n'
+counts_file -two '66,0\n'
+counts_file -four '66,0,0,0\n'
+counts_file -wide '66,0,18446744073709551616\n'
+counts_file -blanks '66, 0, 0\n'
+counts_file -zero '66,00,0\n'
+counts_file -zero-first '066,0,0\n'
+counts_file -plus '66,+0,0\n'
+counts_file -minus '-66,0,0\n'
+counts_file -key 'covered=66,open=0,errors=0\n'
+counts_file -comment '# bench 1\n'
+counts_file -blank '66,0,0\n66,0,0\n66,0,0\n\n'
+counts_file -unended '66,0,0\n66,0,0\n66,0,0'
+commands_file counts-returns '67,0,0\r\n66,0,0\r\n'
+commands_file counts-order-mark '\357\273\27767,0,0\n'
+commands_file counts-utf16 '\377\3766\0007\000,\0000\000\n\000'
+commands_file counts-20 '447507315596451061,0,0\n447507315596451059,1,65535\n'
+commands_file counts-20-more '447507315596451061,0,0\n1,18446744073709551615,0\n'
+commands_file counts-none '1,0,0\n0,0,0\n0,1,0\n'
+yes 0,0,0 | head -n 1000 >"$T/counts-long"
+cp "$T/counts" "$T/-counts"
+cp "$T/counts" "$T/some counts"
+ln -s "$root/bin/benches" "$T/link-benches"
 
 # a reader that goes away after the first line; one that is gone before anything comes; SIGPIPE ignored; a print that is stopped; standard error a terminal; the
 # last two lines in one
@@ -138,15 +172,15 @@ while IFS= read -r row; do
 done <tests/commands/table
 
 # every status that the commands' file names is met by a row for each command, but the one for what cannot be built (building.sh)
-for command in orders show named translate explain; do
+for command in orders show named translate explain benches; do
     for status in 0 64 65 66 74 141; do
         grep -qE "^$status \|.*bin/$command" tests/commands/table || fail "commands: no row of $command ends with $status"
     done
 done
 
-# the planners' page, the labs' and the one for new colleagues have the statuses that commands/way.sh gives, and no other
+# the planners' page, the labs', the one for new colleagues and the one for several benches have the statuses that commands/way.sh gives, and no other
 commands_given=$(sed -n 's/^[a-z_]*=\([0-9][0-9]*\) *#.*/\1/p' commands/way.sh | sort -n | tr '\n' ' ')
-for page in docs/PLANS.md docs/NUMBERS.md docs/RANKS.md; do
+for page in docs/PLANS.md docs/NUMBERS.md docs/RANKS.md docs/BENCHES.md; do
     commands_page=$(sed -n '/^| status /,/^$/s/^| \([0-9]*\) | .*/\1/p' "$page" | sort -n | tr '\n' ' ')
     if [ "$commands_page" = "$commands_given" ] && [ "$commands_given" = '0 1 64 65 66 74 141 ' ]; then
         pass "commands: $page has the statuses that are given"
@@ -200,10 +234,10 @@ else
     fail 'commands: on a terminal the progress is not told, or stands among the orders'
 fi
 # what is printed is the same byte for byte with words, with --quiet and with neither
-while read -r command file; do
-    bin/$command --words "$file" 2>/dev/null >"$T/with"
-    bin/$command --quiet "$file" >"$T/quiet"
-    bin/$command "$file" >"$T/out"
+while read -r command asked; do
+    bin/$command --words $asked 2>/dev/null >"$T/with"
+    bin/$command --quiet $asked >"$T/quiet"
+    bin/$command $asked >"$T/out"
     if [ -s "$T/out" ] && cmp "$T/with" "$T/out" && cmp "$T/quiet" "$T/out"; then
         pass "commands: words change no byte of what $command prints"
     else
@@ -215,6 +249,10 @@ named plans/overlap-6
 translate $T/lines-port-twice
 explain $T/pattern
 explain $T/pattern-twice
+benches 6 4
+benches 6 4 1
+benches 6 4 --add $T/counts
+benches 6 4 --add $T/counts-share
 PRINTS
 # a signal to the command alone ends the program too: orders that are printed, lines that are waited for
 
@@ -271,6 +309,11 @@ TMPDIR=$T/room no_reader bin/named plans/example
 TMPDIR=$T/room bin/translate --words "$T/lines-own-port" >/dev/null 2>&1
 TMPDIR=$T/room bin/explain --words "$T/pattern" >/dev/null 2>&1
 TMPDIR=$T/room no_reader bin/explain "$T/pattern"
+TMPDIR=$T/room bin/benches --words 6 4 --add "$T/counts" >/dev/null 2>&1
+TMPDIR=$T/room bin/benches --words 6 4 --add "$T/counts-share" >/dev/null 2>&1
+TMPDIR=$T/room no_reader bin/benches 6 4
+TMPDIR=$T/room examples/benches/run >/dev/null
+TMPDIR=$T/room examples/benches/run 21 >/dev/null
 { echo ports=5 && yes rank=9; } | TMPDIR=$T/room no_reader bin/translate
 { sleep 0.5 && TMPDIR=$T/room bin/translate "$T/none"; } 2>&1 | true
 if [ -z "$(ls "$T/room")" ]; then pass 'commands: no temporary file is left'; else fail 'commands: temporary files are left'; fi

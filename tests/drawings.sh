@@ -139,9 +139,9 @@ drawn_plan() {
             ;;
         *)
             bin/show --facts "$1" >"$drawings_out/facts"
-            awk -v name=show -f commands/facts.awk -f commands/plan_text.awk <"$drawings_out/facts" >"$drawings_out/text"
-            awk -v name=show -f commands/facts.awk -f commands/plan_svg.awk <"$drawings_out/facts" >"$drawings_out/picture"
-            { cat "$1" && sed -n '/^named=/,$p' "$drawings_out/facts"; } | awk -v name=named -f commands/facts.awk -f commands/strip.awk >"$2"
+            awk -v name=show -f commands/numbers.awk -f commands/facts.awk -f commands/plan_text.awk <"$drawings_out/facts" >"$drawings_out/text"
+            awk -v name=show -f commands/numbers.awk -f commands/facts.awk -f commands/plan_svg.awk <"$drawings_out/facts" >"$drawings_out/picture"
+            { cat "$1" && sed -n '/^named=/,$p' "$drawings_out/facts"; } | awk -v name=named -f commands/numbers.awk -f commands/facts.awk -f commands/strip.awk >"$2"
             ;;
     esac
 }
@@ -248,7 +248,7 @@ bin/show --facts "$drawings_out/plan-single-ranks" >"$drawings_out/facts"
 refuses() {
     sed "$1" "$drawings_out/facts" >"$drawings_out/damaged"
     for form in text svg; do
-        awk -v name=show -f commands/facts.awk -f "commands/plan_$form.awk" <"$drawings_out/damaged" >"$drawings_out/drawing" 2>"$drawings_out/why"
+        awk -v name=show -f commands/numbers.awk -f commands/facts.awk -f "commands/plan_$form.awk" <"$drawings_out/damaged" >"$drawings_out/drawing" 2>"$drawings_out/why"
         if [ $? -eq 1 ] && [ ! -s "$drawings_out/drawing" ] && [ "$(cat "$drawings_out/why")" = "show: $2" ]; then
             refused_facts=$((refused_facts + 1))
         else

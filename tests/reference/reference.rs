@@ -15,7 +15,9 @@
 //! - `printer`: the order printer
 //! - `rehearsal`: lines in bulk, with no counts
 //! - `told`: all of these as the calls of include/jidrofex.h, in numbers and slices
+//! - `benches`: one full circuit split over several benches, their counts added up, as the calls of include/jidrofex_benches.h and as `bin/benches` prints them
 
+pub mod benches;
 pub mod campaign;
 pub mod circuit;
 pub mod dictionary;
