@@ -1,2 +1,3 @@
--- Request 8 is proved.
+-- Request 8 is proved; and that one answer meets each contract.
 pub mod Over
+pub mod Only

@@ -44,7 +44,7 @@ unfolding walk from
 walk-from F circuit r zero h = refl
 walk-from F circuit r (suc k) h =
     let next : F .neighbour false r ≡ suc r =
-        circuit .on r (omega arith) ∙ either (is-cases (suc r) (F .size) 0 (suc r)) (λ c. absurd (omega (arith, c .0))) (λ c. c .1) in
+    circuit .on r (omega arith) ∙ either (is-cases (suc r) (F .size) 0 (suc r)) (λ c. absurd (omega (arith, c .0))) (λ c. c .1) in
     ap {B = List ℕ} (λ l. r ∷ l) (ap (λ q. walk F false q k) next ∙ walk-from F circuit (suc r) k (omega arith))
 
 -- the list at each of its places in a row is the list

@@ -68,14 +68,14 @@ stepped-back each over (suc k) h =
     (λ l. omega (arith, stepped-back each over k l, ap tick (le-ltb k over l)))
 
 module _ (total benches : ℕ) (some : 0 < benches) where
-  -- a share begins after so many equal ones, and after one more for each bench before it, of those that have it
-  pub begins-front : (b : ℕ) → b ≤ total % benches → begins total benches b ≡ b * (total / benches) + b
-  unfolding share
-  begins-front b h = stepped-front (total / benches) (total % benches) b h
-
+  -- a share begins after so many equal ones, and after one more for each bench before it that has it: all that have it, or each of those before it
   pub begins-back : (b : ℕ) → total % benches ≤ b → begins total benches b ≡ b * (total / benches) + total % benches
   unfolding share
   begins-back b h = stepped-back (total / benches) (total % benches) b h
+
+  pub begins-front : (b : ℕ) → b ≤ total % benches → begins total benches b ≡ b * (total / benches) + b
+  unfolding share
+  begins-front b h = stepped-front (total / benches) (total % benches) b h
 
   -- the shares are all the marks
   pub all-shared : begins total benches benches ≡ total
@@ -183,7 +183,7 @@ only-shares total (suc k) s F b h =
     let S : Steps s each (suc k) = steps s each (suc k) (λ c l. near c l) (F .larger) in
     let low : S .over ≤ k = few S in
     let whole : suc k * each + S .over ≡ total =
-        sym (stepped-back each (S .over) (suc k) (omega arith)) ∙ sym (together-same s (stepped each (S .over)) (suc k) (S .so)) ∙ F .all in
+    sym (stepped-back each (S .over) (suc k) (omega arith)) ∙ sym (together-same s (stepped each (S .over)) (suc k) (S .so)) ∙ F .all in
     let small : S .over / suc k ≡ 0 = div-eq-of-lt (omega arith) in
     let e : total / suc k ≡ each = ap (λ (t : ℕ). t / suc k) (sym whole) ∙ mul-add-div (omega arith) each (S .over) ∙ omega arith in
     let o : total % suc k ≡ S .over = ap (λ (t : ℕ). t % suc k) (sym whole) ∙ mul-add-mod-self-left (suc k) each (S .over) ∙ mod-eq-of-lt (omega arith) in

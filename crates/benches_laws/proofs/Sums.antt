@@ -135,9 +135,10 @@ module _ (total k : ℕ) (ns : List ℕ) where
       → (together (coveredAt ns) j + together (openAt ns) j ≤ begins total k j) × (together (errorsAt ns) j ≤ mostErrors * j)
   sums-small j e =
       let so : (b : ℕ) → b < j → (coveredAt ns b + openAt ns b ≤ share total k b) × (errorsAt ns b ≤ mostErrors) =
-          λ b h. fit-so (share total k b) (coveredAt ns b) (openAt ns b) (errorsAt ns b) (all-pass (benchFits total k ns) j e b h) in
-      (omega (arith, together-plus (coveredAt ns) (openAt ns) j, together-most (λ b. coveredAt ns b + openAt ns b) (share total k) j (λ b h. so b h .0)),
-       omega (arith, together-most (errorsAt ns) (λ b. mostErrors) j (λ b h. so b h .1), together-alike mostErrors j))
+      λ b h. fit-so (share total k b) (coveredAt ns b) (openAt ns b) (errorsAt ns b) (all-pass (benchFits total k ns) j e b h) in (
+        omega (arith, together-plus (coveredAt ns) (openAt ns) j, together-most (λ b. coveredAt ns b + openAt ns b) (share total k) j (λ b h. so b h .0)),
+        omega (arith, together-most (errorsAt ns) (λ b. mostErrors) j (λ b h. so b h .1), together-alike mostErrors j),
+      )
 
 -- ---- bench by bench
 

@@ -60,7 +60,7 @@ marks-from start (suc run) = refl
 closed-few : (C : Setting) (s : State) → Fit C s → s .covered + s .opened ≤ marks (C .legs)
 closed-few C s fit =
     let by-end : (b : Bool) → s .ended ≡ b → s .covered + s .opened ≡ cond b (marks (C .legs)) (numberOf C s) =
-        λ b e. fit .counts ∙ ap (λ x. cond x (marks (C .legs)) (numberOf C s)) e in
+    λ b e. fit .counts ∙ ap (λ x. cond x (marks (C .legs)) (numberOf C s)) e in
     either (test (s .ended))
     (λ e. omega (arith, by-end true e))
     (λ e. omega (arith, by-end false e, number-below (C .legs) (s .leg) (s .step) (fit .leg) (fit .step)))

@@ -11,6 +11,12 @@ use Rattle.text_entries.specs.Entries.{pieces, eachNumber, entriesIn}
 use Rattle.text_entries.proofs.Cutting.{parted, pieces-cut}
 use Rattle.benches_text.specs.Reading.{areThree, threeAfter}
 
+-- ---- known cases
+
+-- two numbers are not three, three are, and four are not
+pub exactly-three : (areThree (1 ∷ 2 ∷ []) ≡ none) × (areThree (1 ∷ 2 ∷ 3 ∷ []) ≡ some (record { first = 1; second = 2; third = 3 })) × (areThree (1 ∷ 2 ∷ 3 ∷ 4 ∷ []) ≡ none)
+exactly-three = (refl, refl, refl)
+
 -- ---- pieces
 
 -- a text has a first piece

@@ -34,8 +34,15 @@ leg-most b l h i j =
     let x = said (quoted "bench=") b in
     let y = said (quoted " start=") (l .start) in
     let z = said (quoted " run=") (l .run) in
-    omega (arith, length-append x (y ++ (z ++ ended)), length-append y (z ++ ended), length-append z ended,
-    said-most (quoted "bench=") b h, said-most (quoted " start=") (l .start) i, said-most (quoted " run=") (l .run) j)
+    omega (
+      arith,
+      length-append x (y ++ (z ++ ended)),
+      length-append y (z ++ ended),
+      length-append z ended,
+      said-most (quoted "bench=") b h,
+      said-most (quoted " start=") (l .start) i,
+      said-most (quoted " run=") (l .run) j,
+    )
 
 pub none-most : (b : ℕ) → b ≤ largest64 → length (benchLine b none) ≤ 79
 unfolding benchLine quoted
@@ -55,8 +62,12 @@ module _ (n k : ℕ) (good : Good n k) where
   unfolding benchLines
   lines-most b zero h = omega arith
   lines-most b (suc left) h =
-      omega (arith, length-append (benchLine b (planOf n k b)) (benchLines n k (suc b) left), line-most b (omega arith) (planOf n k b) refl,
-      lines-most (suc b) left (omega arith))
+      omega (
+        arith,
+        length-append (benchLine b (planOf n k b)) (benchLines n k (suc b) left),
+        line-most b (omega arith) (planOf n k b) refl,
+        lines-most (suc b) left (omega arith),
+      )
 
   -- so there is room for all
   pub all-short : length (benchLines n k 0 k) ≤ mostAnswer

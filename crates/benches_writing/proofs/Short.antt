@@ -55,8 +55,17 @@ plan-short n l h i j =
     let b = fieldText legsKey (digitsOf 1) in
     let c = fieldText startKey (digitsOf (l .start)) in
     let d = fieldText runKey (signedDigits (runOf l)) in
-    omega (arith, ap length (plan-lines n l), length-append a (b ++ (c ++ d)), length-append b (c ++ d), length-append c d,
-    field-most portsKey n h, field-most legsKey 1 (omega arith), field-most startKey (l .start) i, run-most l j)
+    omega (
+      arith,
+      ap length (plan-lines n l),
+      length-append a (b ++ (c ++ d)),
+      length-append b (c ++ d),
+      length-append c d,
+      field-most portsKey n h,
+      field-most legsKey 1 (omega arith),
+      field-most startKey (l .start) i,
+      run-most l j,
+    )
 
 pub sums-short : (x y z of : ℕ) → x ≤ largest64 → y ≤ largest64 → z ≤ largest64 → of ≤ largest64
     → length (sumLines (record { covered = x; opened = y; errors = z }) of) ≤ mostAnswer
@@ -66,5 +75,13 @@ sums-short x y z of h i j k =
     let b = fieldText (quoted "open=") (digitsOf y) in
     let c = fieldText (quoted "errors=") (digitsOf z) in
     let d = fieldText (quoted "of=") (digitsOf of) in
-    omega (arith, length-append a (b ++ (c ++ d)), length-append b (c ++ d), length-append c d,
-    field-most (quoted "covered=") x h, field-most (quoted "open=") y i, field-most (quoted "errors=") z j, field-most (quoted "of=") of k)
+    omega (
+      arith,
+      length-append a (b ++ (c ++ d)),
+      length-append b (c ++ d),
+      length-append c d,
+      field-most (quoted "covered=") x h,
+      field-most (quoted "open=") y i,
+      field-most (quoted "errors=") z j,
+      field-most (quoted "of=") of k,
+    )

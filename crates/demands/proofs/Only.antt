@@ -46,7 +46,7 @@ use Rattle.face_campaign.proofs.Contracts as face-campaign
 use Rattle.demands.specs.Only.{EachCallOne}
 
 -- two runs give the same if what the contract says of them makes them so
-one-by : {K : Type 0} {A R E L : K → Type 0} {learnt this : Contract K A R E} {gives : (κs : K) → R κs → E κs → L κs}
+pub one-by : {K : Type 0} {A R E L : K → Type 0} {learnt this : Contract K A R E} {gives : (κs : K) → R κs → E κs → L κs}
     → Says learnt this → One this gives → One learnt gives
 one-by says one κs a r s e f h k = one κs a r s e f (says κs a r e h) (says κs a s f k)
 

@@ -19,9 +19,10 @@ no-second Bench = refl
 no-second (Counts b) = refl
 
 returns : tie.Need-returns
-returns c =
-    (c .fault-number .ensures,
-    c .before .give .ensures .1 ∙ ap₂ (λ (place second : ℕ). five (place ∷ second ∷ [])) (c .before .before .fault-place .ensures) (no-second (c .before .before .before .before .args .f)))
+returns c = (
+  c .fault-number .ensures,
+  c .before .give .ensures .1 ∙ ap₂ (λ (place second : ℕ). five (place ∷ second ∷ [])) (c .before .before .fault-place .ensures) (no-second (c .before .before .before .before .args .f)),
+)
 
 pub refuse-spec : {M : Type 1} → statement M
 refuse-spec = tie.close (tie.spec (λ c κs. search needs) (λ c κs. search needs) (λ c κs. search needs) returns)

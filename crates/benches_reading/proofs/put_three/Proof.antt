@@ -19,8 +19,12 @@ slice-write-counts-2 c =
 slice-write-counts-3 : tie.Need-slice-write-counts-3
 slice-write-counts-3 c =
     let a = c .before .args in
-    omega (arith, three-room _ _ (c .if1 .taken), length-set (a .counts .now) (3 * a .lines) (a .a),
-    length-set (set (a .counts .now) (3 * a .lines) (a .a)) (3 * a .lines + 1) (a .b))
+    omega (
+      arith,
+      three-room _ _ (c .if1 .taken),
+      length-set (a .counts .now) (3 * a .lines) (a .a),
+      length-set (set (a .counts .now) (3 * a .lines) (a .a)) (3 * a .lines + 1) (a .b),
+    )
 
 returns : tie.Need-returns
 returns c = (search needs, λ h. three-set _ _ _ _ _ h)

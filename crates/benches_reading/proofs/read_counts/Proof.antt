@@ -32,7 +32,7 @@ returns c =
     let t = l .before .before .before .args .t .now in
     let R = l .loop .inv .4 in
     let nowhere : none ≡ firstOf newline (drop (l .loop .at) t) =
-        sym (ap foundIs (c .enum-told .given .1)) ∙ f .find .ensures ∙ ap (firstOf newline) (to-the-end t (l .loop .at)) in
+    sym (ap foundIs (c .enum-told .given .1)) ∙ f .find .ensures ∙ ap (firstOf newline) (to-the-end t (l .loop .at)) in
     let inside : l .loop .at < length t = omega (arith, l .loop .inv .0, f .before .before .loop-test .taken) in
     let N = not-read t _ _ _ (line-as (read-unended _ _ _ _ R nowhere inside)) in
     (N .0, (l .loop .inv .3, λ ns e h. N .1 ns e (omega (arith, l .loop .inv .3))))
@@ -68,7 +68,7 @@ returns-2 c =
     let k = r .before .before in
     let l = k .before .before .before .before .before .before in
     let N = not-read (l .before .before .before .args .t .now) _ _ _
-        (line-as (read-bad _ _ _ _ (l .loop .inv .4) _ (at-newline k) (sym (ap tripleIs (c .enum-told2 .given .1)) ∙ line-read r))) in
+    (line-as (read-bad _ _ _ _ (l .loop .inv .4) _ (at-newline k) (sym (ap tripleIs (c .enum-told2 .given .1)) ∙ line-read r))) in
     (N .0, (l .loop .inv .3, λ ns e h. N .1 ns e (omega (arith, l .loop .inv .3))))
 
 loop-again : tie.Need-loop-again Inv-loop μ-loop
@@ -78,9 +78,13 @@ loop-again c =
     let r = x .before .before in
     let k = r .before .before in
     let l = k .before .before .before .before .before .before in
-    let h = inside k in
-    (l .loop .inv .0, omega arith, omega (arith, l .loop .inv .2), p .put-three .ensures .0 ∙ l .loop .inv .3,
-    read-more _ _ _ _ (l .loop .inv .4) _ (at-newline k) _ (sym (ap tripleIs (x .a .given .1)) ∙ line-read r) _ (p .put-three .ensures .0) (p .put-three .ensures .1))
+    let h = inside k in (
+      l .loop .inv .0,
+      omega arith,
+      omega (arith, l .loop .inv .2),
+      p .put-three .ensures .0 ∙ l .loop .inv .3,
+      read-more _ _ _ _ (l .loop .inv .4) _ (at-newline k) _ (sym (ap tripleIs (x .a .given .1)) ∙ line-read r) _ (p .put-three .ensures .0) (p .put-three .ensures .1),
+    )
 
 after : (c : tie.After-slice-known2 Inv-loop μ-loop)
     → let k = c .before .before .before .before .before .before .before .before .before in

@@ -32,10 +32,11 @@ loop-again c =
     let p = c .before .before in
     let h = p .before .before in
     let t = h .before in
-    let l = t .before in
-    (omega (arith, l .loop .inv .0, t .loop-test .taken),
-    line-on _ _ (l .before .before .pre .0) _ _ (l .loop .at) (l .loop .bench) (l .loop .left) _ (l .loop .inv .1) (t .loop-test .taken) (l .loop .inv .0) _
-    (h .share .ensures) _ _ (p .put-share .ensures))
+    let l = t .before in (
+      omega (arith, l .loop .inv .0, t .loop-test .taken),
+      line-on _ _ (l .before .before .pre .0) _ _ (l .loop .at) (l .loop .bench) (l .loop .left) _ (l .loop .inv .1) (t .loop-test .taken) (l .loop .inv .0) _
+          (h .share .ensures) _ _ (p .put-share .ensures),
+    )
 
 returns : tie.Need-returns Inv-loop μ-loop
 returns c =

@@ -42,10 +42,12 @@ small c =
 
 loop-again : tie.Need-loop-again Inv-loop μ-loop
 loop-again c =
-    let l = c .before .before .before .before .before .before .before in
-    (search needs, omega (arith, l .loop .inv .1),
-    added-more _ _ _ _ _ _ _ _ _ _ (l .loop .inv .2) (l .loop .inv .1) (c .before .before .marks-of .ensures) (c .before .counts-fit .ensures)
-    (not-false _ (c .if1 .left)))
+    let l = c .before .before .before .before .before .before .before in (
+      search needs,
+      omega (arith, l .loop .inv .1),
+      added-more _ _ _ _ _ _ _ _ _ _ (l .loop .inv .2) (l .loop .inv .1) (c .before .before .marks-of .ensures) (c .before .counts-fit .ensures)
+          (not-false _ (c .if1 .left)),
+    )
 
 returns-2 : tie.Need-returns-2 Inv-loop μ-loop
 returns-2 c = all-added _ _ _ _ _ _ _ (c .before .loop .inv .2) (omega (arith, c .before .loop .inv .0, c .loop-test .left))

@@ -40,7 +40,7 @@ returns-2 c =
     (sym (c .before .some-benches .ensures) ∙ not-true _ (c .if2 .taken))
 
 returns-3 : tie.Need-returns-3
-returns-3 c = bench-refused _ _ _ (ports (c .before)) (benches (c .before)) (c .if3 .taken)
+returns-3 c = bench-refused _ _ _ (ports (c .before)) (benches (c .before)) (omega (arith, c .if3 .taken))
 
 count-of-requires : tie.Need-count-of-requires
 count-of-requires c κs = size-within _ _ (c .before .before .before .before .in-size .ensures) (c .before .before .before .if1 .left) .1
@@ -50,6 +50,10 @@ small : (c : tie.After-count-of) → c .count-of .result < largest64
 small c =
     let few = size-within _ _ (c .before .before .before .before .before .in-size .ensures) (c .before .before .before .before .if1 .left) .1 in
     omega (arith, c .count-of .ensures, count-most _ few)
+
+-- the bench is below the benches
+start-of-requires : tie.Need-start-of-requires
+start-of-requires c κs = (small c, omega (arith, c .before .if3 .left))
 
 returns-4 : tie.Need-returns-4
 unfolding planOf
@@ -73,7 +77,7 @@ share-spec =
     returns-3
     (λ c. omega (arith, size-within _ _ (c .before .before .before .before .in-size .ensures) (c .before .before .before .if1 .left) .1))
     count-of-requires
-    (λ c κs. (small c, omega (arith, c .before .if3 .left)))
+    start-of-requires
     (λ c κs. (small (c .before), one-of _ _ (benches (c .before .before .before)) .0))
     (λ c κs. search needs)
     returns-4)
