@@ -1,6 +1,7 @@
 //! The speed table, as Markdown: nanoseconds a call of the proved library beside the plain Rust reference, in the same process and run, and the
 //! deepest stack of each call. Each time is the median of several runs with the least and the most; nothing is asserted of any.
 
+mod benches;
 mod campaign;
 mod dictionary;
 mod named;
@@ -280,5 +281,6 @@ fn main() {
     campaign::campaign_table();
     campaign::errors_table();
     printer_table();
+    benches::benches_table();
     stack::stack_table();
 }

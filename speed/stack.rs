@@ -1,9 +1,11 @@
 //! The deepest stack of each call.
 
+use super::benches;
 use super::campaign::standing_mark;
 use super::named::apart;
 use super::{begun, patterns, rehearsed};
 use face::Answer;
+use reference::benches::MOST_BENCHES;
 use reference::campaign::{PANEL, STANDING};
 use std::arch::asm;
 use std::ptr::{read_volatile, write_volatile};
@@ -146,6 +148,10 @@ pub fn stack_table() {
     show("resume", deepest(for_resume, |l| accepted(face::resume(&mut l.state, &l.pattern, &mut l.answer))));
     show("rehearse", deepest(nothing, |l| accepted(face::rehearse(plan, &mut l.rehearsal, &mut l.answer))));
     show("orders", deepest(nothing, |l| accepted(face::orders(&mut l.rehearsal, &mut l.buffer, &mut l.answer))));
+    show("benches_version", deepest(nothing, |l| accepted(benches::version(&mut l.answer))));
+    show("benches_share", deepest(nothing, |l| accepted(benches::share(benches::PORTS, MOST_BENCHES, l.pattern[0].into(), &mut l.answer))));
+    let counts = &benches::counts();
+    show("benches_sum", deepest(nothing, |l| accepted(benches::sum(benches::PORTS, MOST_BENCHES, counts, &mut l.answer))));
 }
 
 /// The call was accepted: a refused one would say nothing of the stack.

@@ -88,6 +88,10 @@ must_fail crate-without-a-room 'a crate that begins with no room: legs'
 
 changed crate-left-out-of-the-tour README.md 's/`listing_cases`/the cases/' "a crate that README's tour does not name: listing_cases"
 changed roof-leaned-on crates.txt 's/^orders:/orders: demands/' 'a crate that depends on the roof, demands: orders'
+changed roof-leaned-on-by-benches crates.txt 's/^benches_calls:/benches_calls: demands/' 'a crate that depends on the roof, demands: benches_calls'
+changed benches-leaned-on crates.txt 's/^orders:/orders: benches_laws/' 'a crate that depends on several benches, a product of its own: orders'
+changed roof-of-benches-leaned-on crates.txt 's/^benches_text:/benches_text: benches_demands/' \
+    'a crate that depends on the roof of several benches, benches_demands: benches_text'
 changed room-after-its-own crates.txt 's/^text_keys:/text_keys: panel/' 'a crate that leans on a room after its own: text_keys on panel'
 
 # ---- the plans
@@ -104,6 +108,8 @@ changed claim-changed docs/USING.md 's/A call takes less than 8 KiB/A call takes
 
 # ---- the public calls
 changed contract-that-no-law-holds crates/patterns/proofs/Contracts.antt '/^pub rank-says/d' 'a call whose contract no law holds: rank-says of patterns'
+changed contract-of-benches-that-no-law-holds crates/benches_face/proofs/Contracts.antt '/^pub version-says/d' \
+    'a call whose contract no law holds: version-says of benches_face'
 changed call-without-its-field crates/demands/specs/Only.antt '/^  pub faceRequest /d' 'a call whose contract no law holds: a field for jidrofex_request of face_campaign'
 
 # ---- the edits

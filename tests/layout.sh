@@ -1,5 +1,5 @@
-# The layout: crates.txt and the folders of crates/ name the same crates, README's tour names each of them, each stands in a room, and the
-# roof carries nothing.
+# The layout: crates.txt and the folders of crates/ name the same crates, README's tour names each of them, each stands in a room, the roof carries nothing but
+# the roof of several benches, and these are a product that nothing else rests on.
 listed=$(sed -e 's/#.*//' -e 's/:.*//' -e 's/[[:space:]]//g' crates.txt | grep -v '^$' | sort)
 folders=$(for folder in crates/*/; do basename "$folder"; done | sort)
 stray=$(for name in $folders; do echo "$listed" | grep -qx "$name" || echo "$name"; done)
@@ -17,7 +17,8 @@ fi
 
 # a room is the part of the name before its first _; the programs' room has names of its own. Each crate stands in a room, and knows its own
 # room and those before it
-rooms='listing promise words text pattern:patterns dictionary panel line plan:plans campaign printing:console:asking:showing:naming:translating:explaining:orders:show:named:translate:explain:cases face demands'
+rooms="listing promise words text pattern:patterns dictionary panel line plan:plans campaign \
+printing:console:asking:showing:naming:translating:explaining:orders:show:named:translate:explain:cases face demands benches"
 homeless=$(for name in $listed; do echo " $rooms " | grep -qE "[ :]${name%%_*}[ :]" || echo "$name"; done)
 if [ -z "$homeless" ]; then
     pass "every crate begins with its room"
@@ -34,9 +35,23 @@ else
     fail "a crate that leans on a room after its own: $(echo $climbing)"
 fi
 
-leaning=$(sed -n 's/^\([a-z_0-9]*\):.* demands\( .*\)*$/\1/p' crates.txt)
-if [ -z "$leaning" ]; then
-    pass "no crate depends on demands"
+# leaning REGEX: the crates that depend on a crate of such a name
+leaning() { sed -n "s/^\([a-z_0-9]*\):\(.* \)*$1\( .*\)*\$/\1/p" crates.txt; }
+on_roof=$(leaning demands | grep -vx benches_demands)
+if [ -z "$on_roof" ]; then
+    pass "no crate depends on demands but benches_demands"
 else
-    fail "a crate that depends on the roof, demands: $(echo $leaning)"
+    fail "a crate that depends on the roof, demands: $(echo $on_roof)"
+fi
+on_benches=$(leaning 'benches[a-z_0-9]*' | grep -v '^benches')
+if [ -z "$on_benches" ] && [ -n "$(leaning benches_laws)" ]; then
+    pass "no crate outside the room benches depends on a crate of it"
+else
+    fail "a crate that depends on several benches, a product of its own: $(echo $on_benches)"
+fi
+on_benches_roof=$(leaning benches_demands)
+if [ -z "$on_benches_roof" ]; then
+    pass "no crate depends on benches_demands"
+else
+    fail "a crate that depends on the roof of several benches, benches_demands: $(echo $on_benches_roof)"
 fi

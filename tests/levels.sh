@@ -26,7 +26,7 @@ levels_different() {
 
 # ---- each input by the reference and by what is known of it, group by group; each refusal is met at each place that its fault can have
 levels_groups() {
-    command_each explain found $(cut -d ' ' -f 1 list | sed 's|^|texts/|')
+    awk '{ print $1 " texts/" $1 }' list | command_each explain found
     levels_different >different
     awk '
         FILENAME == "different" { name = $1; sub(/^[^ ]* /, ""); said[name] = said[name] "; " $0; next }

@@ -20,34 +20,7 @@ reference_selftest() {
 reference_differential() {
     reference_over 'the differential test' --extern "face=$reference_out/libface.rlib" -C "link-arg=$reference_archive" \
         -o "$reference_out/differential" tests/reference/differential.rs || return
-    if "$reference_out/differential" >"$reference_out/log" 2>&1 &&
-        tail -n 1 "$reference_out/log" | grep -Eqx 'differential: [1-9][0-9]* cases, 0 differences'; then
-        while read -r reference_line; do
-            case $reference_line in
-                'group '*) pass "differential: $reference_line" ;;
-                *) echo "$reference_line" ;;
-            esac
-        done <"$reference_out/log"
-    else
-        cat "$reference_out/log"
-        fail 'the differential test: the library and the reference differ, or it did not end'
-    fi
-}
-
-# what the archive needs, exports and holds
-reference_symbols() {
-    reference_needs=$(nm -u "$reference_archive" | sed -n 's/^ *U //p' | sort -u)
-    reference_exports=$(nm -g --defined-only "$reference_archive" | sed -n 's/^[0-9a-f]* [A-Z] //p' | sort)
-    reference_data=$(size "$reference_archive" | awk 'NR > 1 { sum += $2 + $3 } END { print sum + 0 }')
-    if echo "$reference_needs" | grep -qvxE 'memcpy|memset'; then
-        fail "reference: the archive needs more than memcpy and memset: $(echo $reference_needs)"
-    elif [ -z "$reference_exports" ] || [ "$reference_exports" != "$(sed -n 's/^uint8_t \(jidrofex_[a-z_]*\)(.*/\1/p' include/jidrofex.h | sort)" ]; then
-        fail "reference: the archive exports not just the calls of the header: $(echo $reference_exports)"
-    elif [ "$reference_data" -ne 0 ]; then
-        fail "reference: the archive has $reference_data bytes of data of its own"
-    else
-        pass 'reference: the archive needs memcpy and memset at most, exports the calls of the header alone, and has no data of its own'
-    fi
+    reference_groups differential "$reference_out/differential" 'differential: [1-9][0-9]* cases, 0 differences'
 }
 
 # the commands of docs/USING.md that build the examples and run one, as they stand there, in a folder that has what they name
@@ -113,7 +86,7 @@ reference_examples() {
 
 type archive_ready >/dev/null 2>&1 || . "$root/tests/archive.sh"
 archive_ready
-[ ! -f "$reference_archive" ] || reference_symbols
+[ ! -f "$reference_archive" ] || archive_symbols reference jidrofex
 if [ -f "$reference_archive" ] && reference_library &&
     reference_rust 'the calls from Rust' --crate-type rlib --crate-name face -o "$reference_out/libface.rlib" tests/reference/face.rs; then
     reference_selftest

@@ -32,7 +32,7 @@ translation_same() {
 translation_texts() {
     translation_same 'every rank, number and pattern of 2 to 6 ports' texts/every bin/translate texts/every
     translation_same '6,000 ranks, numbers and patterns of 7 to 20 ports by chance, with changes of ports between' texts/chance bin/translate texts/chance
-    command_each translate each $(cut -d ' ' -f 1 texts/list | sed 's|^|texts/|')
+    awk '{ print $1 " texts/" $1 }' texts/list | command_each translate each
     while read -r text number line what; do
         translation_wanted "texts/$text" >wanted
         cmp -s wanted "each/$text" || echo "$what: something else than the reference prints"

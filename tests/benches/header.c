@@ -6,29 +6,8 @@
 #include <stdio.h>
 #include <string.h>
 
-/* The comparisons are those of the campaign's program, with an answer of this header. What is there for states and panels is not used here: any numbers will do
- * for its constants. */
-#define JIDROFEX_ACCEPTED JIDROFEX_BENCHES_ACCEPTED
-#define JIDROFEX_ANSWER_WORDS JIDROFEX_BENCHES_ANSWER_WORDS
-enum {
-    JIDROFEX_MOST_PORTS,
-    JIDROFEX_MOST_LEGS,
-    JIDROFEX_STATE_PORTS,
-    JIDROFEX_STATE_LEGS,
-    JIDROFEX_STATE_STARTS,
-    JIDROFEX_STATE_RUNS,
-    JIDROFEX_STATE_PANEL,
-    JIDROFEX_STATE_LEG
-};
-#ifdef __GNUC__
-#pragma GCC diagnostic push
-#pragma GCC diagnostic ignored "-Wunused-function"
-#pragma GCC diagnostic ignored "-Wunused-variable"
-#endif
+enum { ACCEPTED = JIDROFEX_BENCHES_ACCEPTED, ANSWER_WORDS = JIDROFEX_BENCHES_ANSWER_WORDS };
 #include "../header/compared.h"
-#ifdef __GNUC__
-#pragma GCC diagnostic pop
-#endif
 
 /* ---- shares */
 

@@ -1,20 +1,17 @@
-# A command on many inputs, and what a page shows of it: for the parts that hold a command to the reference, translation and levels.
+# A command on many inputs, and what a page shows of it: for the parts that hold a command to the reference, translation, levels and benches.
 
-# command_each COMMAND FOLDER TEXT..: what the command prints of each text, and its status, in the folder under the text's name: as bin/COMMAND does it, but
-# that the program is looked up once
+# command_each COMMAND FOLDER: for each line of standard input, NAME WORDS.., what the command prints when it is called with these words, and its status on a
+# last line, in the folder under that name: as bin/COMMAND does it, but that its program is looked up once
 command_each() (
-    eval "$(grep -E '^(name|what|asked|own_options)=' "$root/bin/$1")"
-    after_build=$(sed '1,/^build$/d' "$root/bin/$1")
     folder=$2
-    shift 2
-    usage() { :; }
-    own_option() { return 1; }
-    . "$root/commands/way.sh"
-    options --quiet
+    # what the command sets for itself, and the one way of all; then what it does with its words, which begins with its options
+    eval "$(sed '/^root=/d; /^options /,$d' "$root/bin/$1")"
+    with_words=$(sed -n '/^options /,$p' "$root/bin/$1")
     build
-    for text; do
-        (trap leave EXIT && file=$text && eval "$after_build") >"$folder/${text##*/}" 2>&1
-        echo "status=$?" >>"$folder/${text##*/}"
+    build() { :; }
+    while read -r called_name called_words; do
+        (trap leave EXIT && set -- --quiet $called_words && eval "$with_words") >"$folder/$called_name" 2>&1 </dev/null
+        echo "status=$?" >>"$folder/$called_name"
     done
 )
 

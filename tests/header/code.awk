@@ -1,20 +1,30 @@
-# What the code says of the header, in the lines of read.awk: the calls from the functions of crates/face_*, the numbers of each call from the fields of
-# demands.One.DemandOne, the refusals from `reason_number`, the state's places and the other constants from where the code has them.
+# What the code says of a header, in the lines of read.awk: the calls from the functions for C, the numbers of each call from the fields of a record of demands,
+# the refusals from `reason_number` or `fault_number`, the state's places and the other constants from where the code has them.
+# -v header=jidrofex, the header's name; the files are those that have all that
 
 BEGIN {
     # what the length beside a slice is called
     length_of["pattern"] = length_of["panel"] = "ports"
     length_of["text"] = length_of["buffer"] = "bytes"
     length_of["state"] = length_of["rehearsal"] = "words"
-    length_of["gaps"] = "numbers"
-    # the field that has the numbers of a call; 15 stands before those of a text that is read into words
-    fields = "check:check check_panel:checkPanel count:count rank:rank unrank:unrank next:beside previous:beside step:step" \
+    length_of["gaps"] = length_of["counts"] = "numbers"
+    # the field that has the numbers of a call, of demands.One.DemandOne or of benches_demands.Over.OverBenches; 15 stands before those of a text that is read
+    # into words
+    fields["jidrofex"] = "check:check check_panel:checkPanel count:count rank:rank unrank:unrank next:beside previous:beside step:step" \
         " dictionary_number:dictionaryNumber dictionary_pattern:dictionaryPattern dictionary_next:dictionaryNext number_to_rank:numberToRank" \
         " rank_to_number:rankToNumber port_at:portAt jack_of:jackOfPort" \
-        " carry:carry write_line:writeLine read_line:readLine begin:15+readPlan named:named status:status request:asked report:reported report_mark:reportedMark" \
-        " resume:resume rehearse:15+rehearse orders:fill refusal_words:refusalWords refusal_sentence:refusalSentence version:never"
-    # the constants that have the header's name, less its beginning
-    names = " VERSION MOST_PORTS MOST_LEGS ANSWER_WORDS LINE_WORDS GAP_NUMBERS NOTHING SWAP TURN MARK END TWO_SWAPS SEAT RAN ERROR GAVE_UP "
+        " carry:carry write_line:writeLine read_line:readLine begin:15+readPlan named:named status:status request:asked report:reported" \
+        " report_mark:reportedMark resume:resume rehearse:15+rehearse orders:fill refusal_words:refusalWords refusal_sentence:refusalSentence version:never"
+    fields["jidrofex_benches"] = "share:shareRefused sum:sumRefused version:never"
+    # the constants that stand in the code, by the header's name less its beginning, and after it the code's where that is another
+    names["jidrofex"] = "VERSION MOST_PORTS MOST_LEGS ANSWER_WORDS LINE_WORDS GAP_NUMBERS NOTHING SWAP TURN MARK END TWO_SWAPS SEAT RAN ERROR GAVE_UP"
+    names["jidrofex_benches"] = "VERSION ANSWER_WORDS MOST:MOST_BENCHES COUNTS:PER_BENCH"
+    capitals = toupper(header) "_"
+    n = split(names[header], pair, " ")
+    for (k = 1; k <= n; k++) {
+        m = split(pair[k], part, ":")
+        name_of[part[m]] = part[1]
+    }
     sort_of["u8"] = "uint8_t"; sort_of["u64"] = "uint64_t"; sort_of["i64"] = "int64_t"; sort_of["usize"] = "size_t"
 }
 
@@ -30,14 +40,14 @@ function as_in_c(parameter,    name, type, constant, words) {
     if (type ~ /^\[u64; [A-Z_]+\]$/) {
         words = type
         gsub(/^\[u64; |\]$/, "", words)
-        return constant "uint64_t " name "[JIDROFEX_" words "]"
+        return constant "uint64_t " name "[" capitals words "]"
     }
     gsub(/[][]/, "", type)
     if (type in sort_of && name in length_of) return constant sort_of[type] " *" name ", size_t " length_of[name]
     return "unknown " parameter
 }
 
-/^pub extern "C" fn jidrofex_/ { signature = "" ; on = 1 }
+/^pub extern "C" fn / { signature = "" ; on = 1 }
 on { signature = signature " " $0 }
 on && /\) -> / {
     on = 0
@@ -78,10 +88,12 @@ function in_capitals(name,    told, k, letter) {
     return told
 }
 
-/^ +Reason::[A-Za-z]+ => [0-9]+,$/ && FILENAME ~ /\/refusals\.rt$/ {
+/^pub fn (reason|fault)_number\(/ { refusals = 1 }
+/^[}]/ { refusals = 0 }
+refusals && /^ +(Reason|Fault)::[A-Za-z]+(\(_\))? => [0-9]+,$/ {
     name = $1
-    sub(/.*:/, "", name)
-    print "constant JIDROFEX_REFUSED_" in_capitals(name) " " $3 + 0
+    gsub(/.*:|\(_\)/, "", name)
+    print "constant " capitals "REFUSED_" in_capitals(name) " " $3 + 0
 }
 
 # a sum of numbers and of constants that came before
@@ -99,17 +111,17 @@ function sum_of(text,    part, k, n, sum) {
     sub(/^[^=]*= /, "", text)
     value[name] = sum_of(text)
     if (FILENAME ~ /\/places\.rt$/ && type == "usize")
-        print "constant JIDROFEX_" (name ~ /^(STATE|REHEARSAL)_/ ? "" : "STATE_") name " " value[name]
-    else if (index(names, " " name " "))
-        print "constant JIDROFEX_" name " " value[name]
+        print "constant " capitals (name ~ /^(STATE|REHEARSAL)_/ ? "" : "STATE_") name " " value[name]
+    else if (name in name_of)
+        print "constant " capitals name_of[name] " " value[name]
 }
 
 END {
-    n = split(fields, pair, " ")
+    n = split(fields[header], pair, " ")
     for (k = 1; k <= n; k++) {
         split(pair[k], part, ":")
         list = part[2]
         first = sub(/^15[+]/, "", list) ? "15 " : ""
-        print "refused jidrofex_" part[1] " " first (list == "never" ? "never" : list in numbers ? numbers[list] : "no field " list)
+        print "refused " header "_" part[1] " " first (list == "never" ? "never" : list in numbers ? numbers[list] : "no field " list)
     }
 }

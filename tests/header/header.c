@@ -6,7 +6,9 @@
 #include <stdio.h>
 #include <string.h>
 
+enum { ACCEPTED = JIDROFEX_ACCEPTED, ANSWER_WORDS = JIDROFEX_ANSWER_WORDS };
 #include "compared.h"
+#include "lent.h"
 #include "patterns.h"
 #include "dictionary.h"
 #include "lines.h"

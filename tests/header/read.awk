@@ -2,7 +2,8 @@
 #   call uint8_t jidrofex_count(uint8_t ports, uint64_t answer[JIDROFEX_ANSWER_WORDS])
 #   refused jidrofex_count 1        the numbers in the comment above the call, in their order; `never`, `no list` or `two lists` where it says so, none, or two
 #   constant JIDROFEX_MOST_PORTS 20
-#   unknown ..                      any other statement
+#   unknown ..                      any other statement, or a name that does not begin with the header's
+# -v header=jidrofex, the header's name
 
 # the numbers that a comment says: those after `Refused:`, up to the point or the bracket that explains them
 function numbers_in(text,    at) {
@@ -29,11 +30,11 @@ function tell(statement, comment,    name, part, k, n) {
         gsub(/^enum [{] | [}]$/, "", statement)
         n = split(statement, part, / ?, ?/)
         for (k = 1; k <= n; k++) {
-            if (part[k] !~ /^JIDROFEX_[A-Z_]+ = [0-9]+$/) print "unknown " part[k]
+            if (part[k] !~ "^" toupper(header) "_[A-Z_]+ = [0-9]+$") print "unknown " part[k]
             sub(/ =/, "", part[k])
             print "constant " part[k]
         }
-    } else if (statement ~ /^uint8_t jidrofex_[a-z_]+\([^()]*\)$/) {
+    } else if (statement ~ "^uint8_t " header "_[a-z_]+[(][^()]*[)]$") {
         print "call " statement
         name = statement
         gsub(/^uint8_t |\(.*/, "", name)
