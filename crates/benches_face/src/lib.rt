@@ -11,7 +11,7 @@ use face_values::answers::give;
 ghost use mathlib.Core.Path.{_≡_};
 ghost use mathlib.Core.Option.{some};
 ghost use mathlib.Core.List.{[], _∷_};
-ghost use Prim.Native.Nat.{ℕ, _<_};
+ghost use Prim.Native.Nat.{_<_};
 ghost use Rattle.listing.specs.Limits.{largest64};
 ghost use Rattle.words.specs.Told.{accepted, spotNumber, earlierNumber};
 ghost use Rattle.promise.specs.Plan.{Leg};

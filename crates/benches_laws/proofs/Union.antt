@@ -7,30 +7,25 @@ use mathlib.Core.List.{List, [], _∷_, _++_, map, map-append}
 use mathlib.Core.Option.{Option, none, some}
 use Prim.Native.Nat.{ℕ, zero, suc, _+_, _*_, _≤_, _<_}
 use native.Mathlib.Omega.{arith}
-use lib.Dec.{eqb}
 use lib.ListN.{length, getD}
-use borrow.Author.Tests.{eq-eqb}
 use Rattle.listing.specs.Pattern.{Derangement}
 use Rattle.listing.specs.Count.{count}
 use Rattle.listing.specs.Listing.{listing, at}
 use Rattle.listing.specs.Numbers.{Among}
 use Rattle.listing.specs.Limits.{mostPorts}
-use Rattle.listing.specs.Ends.{home}
 use Rattle.listing.proofs.Numbers.{either, test}
 use Rattle.listing.proofs.Places.{length-listing}
 use Rattle.words.specs.Told.{accepted}
 use Rattle.words.proofs.Shape.{among-one}
-use Rattle.promise.specs.Plan.{Leg, Circuit, ranks, marks}
+use Rattle.promise.specs.Plan.{Leg, Circuit, marks}
 use Rattle.promise.specs.Campaign.{State, Answer, Setting, numberOf}
 use Rattle.promise.specs.Fitness.{Fit}
-use Rattle.promise.specs.Bench.{panelsMet}
-use Rattle.promise.specs.Demand.{Once}
 use Rattle.promise.specs.Derangements.{derangements, onPorts, mostErrors}
 use Rattle.promise.proofs.Legs.{number-below}
 use Rattle.promise.proofs.Circuit.{ended-met}
 use Rattle.promise.proofs.Derangements.{circuit-on}
 use Rattle.benches_laws.specs.Shares.{together, inTurn, share, begins}
-use Rattle.benches_laws.specs.Plans.{legFrom, planOf, namedBy, namedByAll}
+use Rattle.benches_laws.specs.Plans.{legFrom, planOf, namedBy}
 use Rattle.benches_laws.specs.Calls.{mostBenches, perBench, coveredAt, openAt, errorsAt, Counts, sums, benchFits}
 use Rattle.benches_laws.specs.Union.{Did, Kept, countsLeft, marksRun, marksGivenUp, errorsTold, panelsOn, Ended, AllOnce, Union}
 use Rattle.benches_laws.proofs.Shares.{together-same, together-plus, all-shared}

@@ -1,12 +1,10 @@
 -- The plan of each bench, and what the plans name together.
 -- Assumes nothing.
-use Prim.Native.Nat.{ℕ, zero, suc, _≤_, _<_}
-use mathlib.Core.Path.{_≡_}
+use Prim.Native.Nat.{ℕ, zero, suc}
 use mathlib.Core.Bool.{false}
-use mathlib.Core.List.{List, [], _∷_, map}
+use mathlib.Core.List.{List, [], _∷_}
 use mathlib.Core.Option.{Option, none, some}
 use Rattle.listing.specs.Count.{count}
-use Rattle.listing.specs.Listing.{listing, at}
 use Rattle.promise.specs.Plan.{Leg, ranks}
 use Rattle.promise.specs.Derangements.{derangements}
 use Rattle.plans.specs.Grammar.{planText}

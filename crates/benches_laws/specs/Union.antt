@@ -19,7 +19,7 @@ use Rattle.promise.specs.Demand.{Demanded, Once}
 use Rattle.promise.specs.Derangements.{onPorts}
 use Rattle.benches_laws.specs.Shares.{together, inTurn}
 use Rattle.benches_laws.specs.Plans.{planOf}
-use Rattle.benches_laws.specs.Calls.{Counts, sumOf}
+use Rattle.benches_laws.specs.Calls.{sumOf}
 
 -- ---- one bench
 

@@ -2,7 +2,7 @@
 -- Assumes nothing.
 use mathlib.Core.Path.{_≡_, refl, sym, ap, _∙_}
 use mathlib.Core.List.{List, [], _∷_, _++_, append-nil, append-assoc}
-use mathlib.Core.Option.{Option, none, some}
+use mathlib.Core.Option.{none, some}
 use Prim.Native.Nat.{ℕ, suc, _+_, _*_, _/_, _≤_, _<_}
 use native.Mathlib.Nat.{mod-lt, div-add-mod', div-mul-le-self}
 use native.Mathlib.Omega.{arith}
@@ -16,7 +16,7 @@ use Rattle.text_entries.specs.Entries.{pieces}
 use Rattle.text_entries.proofs.Cutting.{parted, pieces-cut}
 use Rattle.benches_laws.specs.Calls.{perBench}
 use Rattle.benches_text.specs.Reading.{Three, threeIn, before, noMore, linesIn, countsFrom, countsIn}
-use Rattle.benches_text.proofs.Three.{Some, some-piece}
+use Rattle.benches_text.proofs.Three.{some-piece}
 
 -- ---- line by line
 

@@ -1,20 +1,20 @@
 -- The lines of all benches: there is room for them, and each is put behind the one before (`line-room`, `line-on`, `lines-over`).
 -- Assumes nothing.
 use mathlib.Core.Path.{_≡_, refl, sym, ap, _∙_}
-use mathlib.Core.List.{List, [], _++_}
+use mathlib.Core.List.{List, _++_}
 use mathlib.Core.Option.{Option, none, some}
 use Prim.Native.Nat.{ℕ, zero, suc, _+_, _-_, _*_, _≤_, _<_}
 use native.Mathlib.Omega.{arith}
 use lib.ListN.{length, length-append}
 use Rattle.listing.specs.Count.{count}
-use Rattle.listing.specs.Limits.{mostPorts, largest64}
+use Rattle.listing.specs.Limits.{largest64}
 use Rattle.listing.proofs.Limits.{count-most}
-use Rattle.words.specs.Told.{Told, accepted}
+use Rattle.words.specs.Told.{Told}
 use Rattle.words.proofs.Shape.{among-one}
 use Rattle.promise.specs.Plan.{Leg}
 use Rattle.line_refusal.specs.Words.{quoted}
 use Rattle.line_putting.specs.Putting.{Puts}
-use Rattle.line_putting.proofs.Putting.{Going, puts-as, going-room, going-on, going-over}
+use Rattle.line_putting.proofs.Putting.{Going, going-room, going-on, going-over}
 use Rattle.benches_laws.specs.Shares.{share, begins}
 use Rattle.benches_laws.specs.Plans.{planOf}
 use Rattle.benches_laws.specs.Calls.{mostBenches, Good, shareOf}

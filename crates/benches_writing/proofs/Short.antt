@@ -1,6 +1,6 @@
 -- How long the answers are: a number of 64 bits has 20 digits at most.
 -- Assumes nothing.
-use mathlib.Core.Path.{_≡_, ap}
+use mathlib.Core.Path.{ap}
 use mathlib.Core.Bool.{Bool, true, false, cond}
 use mathlib.Core.List.{List, [], _∷_, _++_}
 use Prim.Native.Nat.{ℕ, _+_, _≤_}
@@ -18,7 +18,6 @@ use Rattle.plans.specs.Grammar.{portsKey, legsKey, startKey, runKey}
 use Rattle.line_refusal.specs.Words.{quoted}
 use Rattle.line_refusal.specs.Text.{refusedKey, atKey, refusalText}
 use Rattle.benches_laws.specs.Plans.{onePlanText}
-use Rattle.benches_laws.specs.Calls.{Counts}
 use Rattle.benches_text.specs.Text.{said, sumLines, mostAnswer}
 use Rattle.benches_text.proofs.Lines.{refusal-lines, plan-lines}
 

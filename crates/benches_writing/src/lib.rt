@@ -10,7 +10,6 @@ use plan_facts::put_line;
 use plan_facts::run_line;
 use words::Leg;
 use words::Signed;
-ghost use mathlib.Core.Path.{_≡_};
 ghost use mathlib.Core.Option.{none, some};
 ghost use Prim.Native.Nat.{_+_, _≤_};
 ghost use lib.ListN.{length};

@@ -1,5 +1,5 @@
 -- `benches_face::give_share`: the three numbers of a plan, zeros without one, or the refusal.
-use mathlib.Core.Path.{sym, ap, _∙_}
+use mathlib.Core.Path.{sym, ap}
 use native.Mathlib.Omega.{arith}
 use borrow.Author.Needs.{needs}
 use Rattle.plan_rules.specs.Rules.{legIs}

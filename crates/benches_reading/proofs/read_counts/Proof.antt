@@ -1,16 +1,14 @@
 -- `benches_reading::read_counts`: so many lines were read, up to a place, and their numbers stand at the front of the slice as far as it has room. Each turn passes
 -- a newline.
-use mathlib.Core.Path.{_≡_, sym, ap, subst, _∙_}
-use mathlib.Core.List.{List}
+use mathlib.Core.Path.{_≡_, sym, ap, _∙_}
 use mathlib.Core.Option.{none, some}
-use Prim.Native.Nat.{ℕ, _+_, _-_, _≤_, _<_}
+use Prim.Native.Nat.{_+_, _-_, _≤_, _<_}
 use native.Mathlib.Omega.{arith}
 use lib.ListN.{length, take, drop}
 use borrow.Author.Needs.{needs}
-use Rattle.words.specs.Told.{accepted, then}
 use Rattle.text_keys.specs.Parts.{newline, firstOf}
 use Rattle.text_keys.specs.Answers.{foundIs}
-use Rattle.text_keys.proofs.Cuts.{to-the-end, first-inside}
+use Rattle.text_keys.proofs.Cuts.{to-the-end}
 use Rattle.benches_text.specs.Reading.{threeIn}
 use Rattle.benches_text.proofs.Reading.{Read, read-none, read-unended, read-bad, read-more, read-all, read-front, not-read, newline-inside, line-as}
 use Rattle.benches_reading.specs.Answers.{tripleIs}

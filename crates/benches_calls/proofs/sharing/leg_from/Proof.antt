@@ -1,6 +1,5 @@
 -- `benches_calls::sharing::leg_from` meets its contract: no marks are no plan, and a run is one less than the marks.
-use mathlib.Core.Path.{sym, ap, _∙_}
-use native.Mathlib.Omega.{arith}
+use mathlib.Core.Path.{sym, ap}
 use Rattle.words.specs.Told.{accepted}
 use Rattle.benches_laws.proofs.Plans.{leg-some, leg-zero}
 use Rattle.benches_calls.proofs.sharing.leg_from.Statement.{statement}
