@@ -1,5 +1,4 @@
--- Known cases, by computation; laws of the shares, of the plans, of the sums; what is told, case by case; the union.
-pub mod Cases
+-- Laws of the shares, of the plans, of the sums; what is told, case by case; the union.
 pub mod Shares
 pub mod Plans
 pub mod Sums

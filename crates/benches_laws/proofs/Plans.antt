@@ -147,3 +147,10 @@ module _ (n k b : ℕ) (few : 2 ≤ n) (many : n ≤ mostPorts) (h : b < k) (l :
   -- its text is one that the plan reader accepts: as this plan of one leg
   pub plan-accepted : readPlanOf (onePlanText n l) ≡ accepted (onePlan n l)
   plan-accepted = fits-accepted device 1 (onePlan n l) device-wide plan-fits
+
+-- ---- known plans
+
+-- the one pattern of 2 ports over 3 benches
+pub two-over-three : map (planOf 2 3) (0 ∷ 1 ∷ 2 ∷ []) ≡ some (record { start = 0; back = false; run = 0 }) ∷ none ∷ none ∷ []
+unfolding planOf share together count
+two-over-three = refl

@@ -2,6 +2,7 @@
 -- Assumes nothing.
 use mathlib.Core.Path.{_≡_, refl, sym, ap, _∙_}
 use mathlib.Core.Logic.{_⊎_, inl, inr, _↔_}
+use mathlib.Core.List.{[], _∷_, map}
 use Prim.Native.Nat.{ℕ, zero, suc, _+_, _*_, _/_, _%_, _≤_, _<_}
 use native.Mathlib.Nat.{mod-lt, mod-eq-of-lt, div-eq-of-lt, div-add-mod, mul-add-div, mul-add-mod-self-left, mul-zero}
 use native.Mathlib.Omega.{arith}
@@ -195,3 +196,10 @@ only-shares total (suc k) s F b h =
 
     few : (S : Steps s (s k) (suc k)) → S .over ≤ k
     few S = either (below? k (S .over)) (λ l. absurd (omega (arith, S .so k (omega arith), ap tick (lt-ltb k (S .over) l)))) (λ l. l)
+
+-- ---- known shares
+
+-- the 265 patterns of 6 ports over 4 benches: how many each has, and where each begins
+pub six-over-four : (map (share 265 4) (0 ∷ 1 ∷ 2 ∷ 3 ∷ []) ≡ 67 ∷ 66 ∷ 66 ∷ 66 ∷ []) × (map (begins 265 4) (0 ∷ 1 ∷ 2 ∷ 3 ∷ []) ≡ 0 ∷ 67 ∷ 133 ∷ 199 ∷ [])
+unfolding share together
+six-over-four = (refl, refl)

@@ -29,6 +29,10 @@ use Rattle.benches_laws.proofs.Sums.{none-fails, first-now, first-stays
 
 -- ---- ports and benches
 
+-- 'a number of benches from 1 to 64', three counts for each
+pub limits-hold : (mostBenches ≡ 64) × (perBench ≡ 3)
+limits-hold = (refl, refl)
+
 pub ports-good : (n : ℕ) → 2 ≤ n → n ≤ mostPorts → inSize mostPorts n ≡ true
 unfolding inSize
 ports-good n few many = within-true 2 mostPorts n few many
