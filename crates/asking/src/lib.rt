@@ -1,4 +1,5 @@
 // A question of a technician read from text: a pattern, a mark of a plan, or a whole plan; or the refusal with its place. What a text asks stands in specs/.
+#![tactic(auto)]
 pub mod patterned;
 pub mod planned;
 
@@ -16,7 +17,7 @@ const PATTERN_KEY: usize = 8;
 
 // A text judged, and what it asks: the plan, and whether all of it is asked for or one mark, by its number. A pattern is the first mark of a plan that starts
 // there. All zeros if it was refused.
-#[derive(Drop)]
+#[derive(Clone, Copy)]
 pub struct Question {
     pub judged: Outcome,
     pub plan: Plan,

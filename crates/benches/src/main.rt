@@ -1,5 +1,7 @@
 // The shares of several benches, a bench's plan, or the sums of their counts: the first line of standard input says what is asked, with the ports, the benches and a
 // bench; for the sums the counts come after it, of which the first 4,096 bytes are judged. For a refusal it prints its number and its place.
+#![tactic(auto)]
+
 ghost use Rattle.std.specs.Prelude.{◌≤◌, length};
 ghost use Rattle.listing.specs.Limits.{most_ports};
 ghost use Rattle.benches_laws.specs.Calls.{Good};

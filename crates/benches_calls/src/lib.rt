@@ -1,4 +1,5 @@
 // One campaign over several benches (request 8): the share of each bench, and the benches' counts added up. The public calls of a product of its own.
+#![tactic(auto)]
 pub mod adding;
 pub mod faults;
 pub mod sharing;
@@ -6,7 +7,7 @@ pub mod sharing;
 use words::Leg;
 
 // Why a call is refused: ports not 2 to 20, benches not 1 to 64 or counts not three for each, a bench that is not below them, counts of a bench that cannot be.
-#[derive(Drop)]
+#[derive(Clone, Copy)]
 pub enum Fault {
     Ports,
     Benches,
@@ -15,7 +16,7 @@ pub enum Fault {
 }
 
 // What a bench gets: its plan's one leg, or no plan.
-#[derive(Drop)]
+#[derive(Clone, Copy)]
 pub enum Share {
     Plan(Leg),
     NoPlan,
@@ -23,7 +24,7 @@ pub enum Share {
 }
 
 // What marks were covered, what marks are open, and how many errors there were.
-#[derive(Drop)]
+#[derive(Clone, Copy)]
 pub struct Counts {
     pub covered: u64,
     pub opened: u64,
@@ -31,7 +32,7 @@ pub struct Counts {
 }
 
 // The counts of all benches.
-#[derive(Drop)]
+#[derive(Clone, Copy)]
 pub enum Sum {
     Is(Counts),
     Refused(Fault),

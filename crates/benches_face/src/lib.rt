@@ -1,4 +1,6 @@
 // The calls for C on several benches, as include/jidrofex_benches.h has them.
+#![tactic(auto)]
+
 ghost use Rattle.std.specs.Prelude.{◌≡◌, [], ◌∷◌, ◌<◌};
 ghost use Rattle.std.proofs.Math.Option.{some};
 ghost use Rattle.listing.specs.Limits.{largest64};

@@ -1,4 +1,6 @@
 // Counts read from text: a line of three numbers for each bench.
+#![tactic(auto)]
+
 ghost use Rattle.std.specs.Prelude.{◌≡◌, List, [], ◌∷◌, ◌++◌, ℕ, ◌+◌, ◌*◌, ◌≤◌, length, take, drop};
 ghost use Rattle.words.specs.Told.{accepted, then};
 ghost use Rattle.benches_laws.specs.Calls.{per_bench};
@@ -12,14 +14,14 @@ use text_keys::{Found, find};
 pub const PER_LINE: usize = 3;
 
 // The three numbers that a line is, or that it is none.
-#[derive(Drop)]
+#[derive(Clone, Copy)]
 pub enum Triple {
     Numbers(u64, u64, u64),
     Bad,
 }
 
 // How many lines a text has, each of three numbers; or the first line, counted from 1, that has no newline or is not three numbers.
-#[derive(Drop)]
+#[derive(Clone, Copy)]
 pub enum Lines {
     All(usize),
     Unended(usize),

@@ -1,5 +1,7 @@
 // What the command for several benches prints, put into a buffer: the line of a bench, the lines of all, a bench's plan, the sums, a refusal. Each is put from a
 // place on; the answer is the place after it.
+#![tactic(auto)]
+
 ghost use Rattle.std.proofs.Math.Option.{none, some};
 ghost use Rattle.std.specs.Prelude.{◌+◌, ◌≤◌, length};
 ghost use Rattle.plan_rules.specs.Rules.{leg_is};

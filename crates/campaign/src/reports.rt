@@ -18,7 +18,7 @@ use words::refusals::nowhere;
 use words::{Outcome, Reason};
 
 // The mark that a report is on: the one that stands, whichever it is, or the one with a number.
-#[derive(Drop)]
+#[derive(Clone, Copy)]
 pub enum On {
     Standing,
     Number(u64),

@@ -1,4 +1,6 @@
 // Where a campaign is, and going on after a power cut: a saved campaign with the panel as it was read back.
+#![tactic(auto)]
+
 ghost use Rattle.std.specs.Prelude.{◌≡◌, ◌≤◌, length};
 ghost use Rattle.words.specs.Meaning.{refusal_of};
 ghost use Rattle.words.specs.Told.{accepted};
@@ -18,7 +20,7 @@ use words::{Outcome, Reason, Refusal};
 
 // Where a campaign is: the plan's marks; the number, from 0, and the rank of the mark that stands, or else of the next, or after the end of the last; whether
 // that mark stands; whether the end is shown.
-#[derive(Drop)]
+#[derive(Clone, Copy)]
 pub struct Whereabouts {
     pub marks: u64,
     pub number: u64,
@@ -28,14 +30,14 @@ pub struct Whereabouts {
 }
 
 // What is answered to the question where a campaign is.
-#[derive(Drop)]
+#[derive(Clone, Copy)]
 pub enum Where {
     At(Whereabouts),
     Refused(Refusal),
 }
 
 // Whether a campaign goes on from a panel, and the campaign that does: with that panel and its seats begun anew, or as it was.
-#[derive(Drop)]
+#[derive(Clone, Copy)]
 pub struct Resumed {
     pub campaign: Campaign,
     pub judged: Outcome,

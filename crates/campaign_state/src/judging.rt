@@ -18,7 +18,7 @@ use words::limits::{LONGEST, MOST_ERRORS};
 use words::{Jack, Leg, Order};
 
 // Where a state stands: it is unfit; a mark stands; the end is shown; a jack is to be seated; nothing is to come before the next mark; an order is to come.
-#[derive(Drop)]
+#[derive(Clone, Copy)]
 pub enum Stance {
     Unfit,
     AtMark,

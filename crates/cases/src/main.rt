@@ -1,5 +1,6 @@
 // The cases that a program runs and compares: the paper's 'To run', document 000's table for 4 and 5 ports, the circuits of 2 to 6 ports, the paper's example
 // read back. Each line says what was compared; where something is not as expected the line ends in DIFFERS.
+#![tactic(auto)]
 mod calls;
 mod example;
 mod rows;

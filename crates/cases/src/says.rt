@@ -3,7 +3,7 @@ use words::Refusal;
 use words::refusals::{place_number, reason_number};
 
 // What a call told: 0 at 0 where it was accepted, else the number and the place of the refusal.
-#[derive(Drop)]
+#[derive(Clone, Copy)]
 pub struct Told {
     pub number: u8,
     pub place: u8,

@@ -1,5 +1,7 @@
 // What every command's program shares: its input, its output, and how it ended. A program has no exit status of its own, so it tells its outcome on descriptor
 // 3, in lines that the command's wrapper reads (commands/way.sh). Standard error gets one line, and only where something cannot be read or written.
+#![tactic(auto)]
+
 ghost use Rattle.std.specs.Prelude.{◌≡◌, ◌+◌, ◌≤◌, length, take};
 ghost use Rattle.io.specs.Counts.{IsPrefixLen};
 
@@ -11,7 +13,7 @@ use words::{Place, Reason, Refusal};
 const TOLD: i32 = 3;
 
 // What was read: so many bytes, unless reading failed.
-#[derive(Drop)]
+#[derive(Clone, Copy)]
 pub struct Input {
     pub failed: bool,
     pub len: usize,

@@ -8,14 +8,14 @@ ghost use Rattle.dictionary_walk.specs.Free.{frees};
 use words::limits::LONGEST;
 
 // What a free port comes to at a jack: one whose own jack is filled, and one whose own jack is still to come.
-#[derive(Drop)]
+#[derive(Clone, Copy)]
 pub struct Shares {
     pub early: u64,
     pub late: u64,
 }
 
 // The port in whose share a number falls, and the number within that share.
-#[derive(Drop)]
+#[derive(Clone, Copy)]
 pub struct Choice {
     pub port: u8,
     pub within: u64,

@@ -1,5 +1,6 @@
 // Why a pattern has its rank: judges the first 1,024 bytes of standard input as a pattern in one line, and prints its levels and its rank; for a refusal its
 // number, its place, and in words the jack and the rule at fault.
+#![tactic(auto)]
 use console::{printed, read_input, tell_refusal, unreadable, written};
 use explaining_line::{EXPLAINED_BYTES, explain};
 use words::Outcome;

@@ -1,4 +1,6 @@
 // Why a pattern has its rank, written: a line for each of its levels, and then the rank.
+#![tactic(auto)]
+
 ghost use Rattle.std.specs.Prelude.{◌≡◌, ◌++◌, ◌+◌, ◌≤◌, length, take};
 ghost use Rattle.listing.specs.Limits.{most_ports};
 ghost use Rattle.listing_course.specs.InPlace.{WithInverse};

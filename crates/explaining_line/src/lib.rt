@@ -1,4 +1,6 @@
 // A text explained: why the pattern that it is has its rank, or how it is refused and what is wrong, in words.
+#![tactic(auto)]
+
 ghost use Rattle.std.specs.Prelude.{◌≡◌, ◌≤◌, length};
 ghost use Rattle.listing.specs.Pattern.{entry};
 ghost use Rattle.listing.specs.Limits.{most_ports};
@@ -22,7 +24,7 @@ use words::{Outcome, Reason, Refusal};
 pub const EXPLAINED_BYTES: usize = 1104;
 
 // A text judged, and how many bytes of the buffer it takes to say so.
-#[derive(Drop)]
+#[derive(Clone, Copy)]
 pub struct Explained {
     pub judged: Outcome,
     pub len: usize,

@@ -1,4 +1,6 @@
 // A refusal of a pattern written: its number, its place, and in words the jack and the rule at fault, each on a line.
+#![tactic(auto)]
+
 ghost use Rattle.std.specs.Prelude.{◌≡◌, [], ◌++◌, ◌+◌, ◌≤◌, length};
 ghost use Rattle.text_numbers.specs.Decimal.{digits_of};
 ghost use Rattle.words.specs.Meaning.{number_of};

@@ -1,4 +1,6 @@
 // The calls for C on a campaign whose state stands in the words of the caller, and on a rehearsal (include/jidrofex.h).
+#![tactic(auto)]
+
 ghost use Rattle.std.specs.Prelude.{◌≡◌, [], ◌∷◌, length};
 ghost use Rattle.promise.specs.Campaign.{request, report, report_on};
 ghost use Rattle.campaign.specs.Answers.{answer_told};

@@ -1,4 +1,6 @@
 // The calls for C on order lines: written and read (include/jidrofex.h).
+#![tactic(auto)]
+
 ghost use Rattle.std.specs.Prelude.{◌≡◌};
 ghost use Rattle.listing.specs.Limits.{most_ports, largest64};
 ghost use Rattle.line_format.specs.Calls.{write_of, write_bytes};

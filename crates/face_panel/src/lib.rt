@@ -1,4 +1,6 @@
 // The calls for C on a panel: look-ups, and lines carried out on it (include/jidrofex.h).
+#![tactic(auto)]
+
 ghost use Rattle.std.specs.Prelude.{◌≡◌};
 ghost use Rattle.listing.specs.Limits.{most_ports};
 ghost use Rattle.words.specs.Meaning.{numbered_told};

@@ -1,4 +1,6 @@
 // The calls for C on patterns, and the check of a panel, as include/jidrofex.h has them.
+#![tactic(auto)]
+
 ghost use Rattle.std.specs.Prelude.{◌≡◌, true, false};
 ghost use Rattle.listing.specs.Limits.{most_ports};
 ghost use Rattle.pattern_check.specs.Calls.{check_as};

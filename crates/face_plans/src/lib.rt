@@ -1,4 +1,6 @@
 // The call for C on a plan before its campaign starts (include/jidrofex.h).
+#![tactic(auto)]
+
 ghost use Rattle.std.specs.Prelude.{◌≡◌};
 ghost use Rattle.plan_named.specs.Calls.{named_of, named_numbers};
 ghost use Rattle.plan_named.specs.Answers.{survey_told};

@@ -1,4 +1,5 @@
 // The state of a campaign in words, and a rehearsal: each field at its place.
+#![tactic(auto)]
 pub mod places;
 pub mod rehearsals;
 
@@ -17,7 +18,7 @@ use words::limits::{LARGEST, LEG_PLACES, LONGEST, SIGNED_LIMIT};
 use words::signs::by_sign;
 
 // Whether words are a state, and that state; all zeros if they are none.
-#[derive(Drop)]
+#[derive(Clone, Copy)]
 pub struct Held {
     pub known: bool,
     pub state: State,

@@ -11,7 +11,7 @@ use printing::Rehearsal;
 use printing::rehearsals::{rehearsal_of, state_of};
 
 // Whether words are a rehearsal, and that rehearsal.
-#[derive(Drop)]
+#[derive(Clone, Copy)]
 pub struct HeldRehearsal {
     pub known: bool,
     pub rehearsal: Rehearsal,

@@ -1,4 +1,6 @@
 // The calls for C about the library itself: its version, the words of a refusal, and a refusal as a sentence (include/jidrofex.h).
+#![tactic(auto)]
+
 ghost use Rattle.std.specs.Prelude.{◌≡◌, get_or};
 ghost use Rattle.line_refusal.specs.Words.{refusal_words_of, refusal_words_bytes};
 ghost use Rattle.line_sentence.specs.Sentences.{refusal_sentence_of, refusal_sentence_bytes};

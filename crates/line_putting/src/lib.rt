@@ -1,4 +1,6 @@
 // Texts put into a buffer one behind the other, each from a place on; the answer is the place after it.
+#![tactic(auto)]
+
 ghost use Rattle.std.specs.Prelude.{◌++◌, ◌+◌, ◌≤◌, length, take};
 ghost use Rattle.text_numbers.specs.Decimal.{digits_of};
 ghost use Rattle.line_putting.specs.Putting.{Puts};

@@ -2,7 +2,7 @@
 use words::{Line, Refusal};
 
 // The line that was read, and the place after its newline.
-#[derive(Drop)]
+#[derive(Clone, Copy)]
 pub enum ReadLine {
     Read(Line, usize),
     Refused(Refusal),

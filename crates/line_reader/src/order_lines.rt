@@ -23,7 +23,7 @@ use words::{Jack, Line, Order, Reason};
 const MOST_JACKS: u64 = MOST_PORTS as u64;
 
 // A line without its newline, or why it is none: its key, its numbers, or its shape.
-#[derive(Drop)]
+#[derive(Clone, Copy)]
 pub enum Judged {
     Good(Line),
     BadKey,
@@ -32,7 +32,7 @@ pub enum Judged {
 }
 
 // The kinds of lines, as `line_format` has them.
-#[derive(Drop)]
+#[derive(Clone, Copy)]
 pub enum Kind {
     Swap,
     Turn,
@@ -42,21 +42,21 @@ pub enum Kind {
 }
 
 // The kind whose key a text begins with, and the place after the key.
-#[derive(Drop)]
+#[derive(Clone, Copy)]
 pub enum Keyed {
     Of(Kind, usize),
     Bad,
 }
 
 // The number before the first comma of a text, and the place after that comma.
-#[derive(Drop)]
+#[derive(Clone, Copy)]
 pub enum First {
     Number(u64, usize),
     Bad,
 }
 
 // As many numbers as a line may have. Those that it does not have are 0.
-#[derive(Drop)]
+#[derive(Clone, Copy)]
 pub struct Numbers {
     pub first: u64,
     pub second: u64,
@@ -64,7 +64,7 @@ pub struct Numbers {
 }
 
 // The numbers that a text is, or that it is none.
-#[derive(Drop)]
+#[derive(Clone, Copy)]
 pub enum Listed {
     Are(Numbers),
     Bad,

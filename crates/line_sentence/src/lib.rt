@@ -1,4 +1,6 @@
 // A refusal as a sentence, for people: where the fault is, the words of its number, and where the other one is.
+#![tactic(auto)]
+
 ghost use Rattle.std.specs.Prelude.{◌≡◌, [], ◌++◌, ◌+◌, ◌≤◌, length, take, drop};
 ghost use Rattle.text_numbers.specs.Decimal.{digits_of};
 ghost use Rattle.line_format.specs.Calls.{room_of, over, room_bytes};
@@ -71,7 +73,7 @@ fn other_text(number: u8, earlier: u64) -> Spelled
 // ---- the words
 
 // The words of a refusal, the first len bytes.
-#[derive(Drop)]
+#[derive(Clone, Copy)]
 struct Worded {
     bytes: [u8; WORDS_BYTES],
     len: usize,

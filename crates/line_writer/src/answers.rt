@@ -6,7 +6,7 @@ ghost use Rattle.line_writer.specs.Answers.{written_told};
 use words::{Numbered, Refusal};
 
 // How many bytes were written.
-#[derive(Drop)]
+#[derive(Clone, Copy)]
 pub enum Written {
     Bytes(usize),
     Refused(Refusal),

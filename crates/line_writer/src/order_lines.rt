@@ -20,7 +20,7 @@ use words::{Line, Order, Reason};
 pub const LONGEST_LINE: usize = 47;
 
 // A text that is no longer than the longest line, the first len bytes.
-#[derive(Drop)]
+#[derive(Clone, Copy)]
 pub struct Spelled {
     pub bytes: [u8; LONGEST_LINE],
     pub len: usize,

@@ -22,7 +22,7 @@ pub shorter-first : (P : ℕ → Type 0) → P 0 → P 1 → ((m : ℕ) → ((w 
 shorter-first P none single more zero = none
 shorter-first P none single more (suc zero) = single
 shorter-first P none single more (suc (suc m)) =
-    more m (λ w. elim w [ by_a ↦ shorter-first P none single more (suc m) | by_b ↦ shorter-first P none single more m ])
+    more m (λ w. elim w as (λ x. P (shorter x (suc (suc m)))) [ by_a ↦ shorter-first P none single more (suc m) | by_b ↦ shorter-first P none single more m ])
 
 -- ---- the longer pattern
 

@@ -128,7 +128,7 @@ pub levels-first : (P : ℕ → Type 0) → ((n : ℕ) → n ≤ 2 → P n) → 
     → (n : ℕ) → P n
 levels-first P few more =
     shorter-first P (few 0 (omega arith)) (few 1 (omega arith))
-    (λ m. elim m [ zero ↦ λ shorter-ones. few 2 (omega arith) | suc k ↦ λ shorter-ones. more k shorter-ones ])
+    (λ m. elim m as (λ k. ((w : Letter) → P (shorter w (suc (suc k)))) → P (suc (suc k))) [ zero ↦ λ shorter-ones. few 2 (omega arith) | suc k ↦ λ shorter-ones. more k shorter-ones ])
 
 -- there are none up to 2 ports
 pub levels-none : (n : ℕ) (forward : Bool) (p : List ℕ) → n ≤ 2 → levels forward n p ≡ []
@@ -205,7 +205,7 @@ two-below (suc zero) p h D = absurd (omega arith)
 two-below (suc (suc zero)) p h D = absurd (omega arith)
 two-below (suc (suc (suc m))) p h D =
     let n = suc (suc (suc m)) in
-    let some : (w : Letter) → shorter w n ≢ 0 = λ w. elim w [ by_a ↦ λ e. suc-ne-zero (suc m) e | by_b ↦ λ e. suc-ne-zero m e ] in
+    let some : (w : Letter) → shorter w n ≢ 0 = λ w. elim w as (λ x. shorter x n ≢ 0) [ by_a ↦ λ e. suc-ne-zero (suc m) e | by_b ↦ λ e. suc-ne-zero m e ] in
     two-ports (some (letter n p)) (rank_below (shorter (letter n p) n) (back (letter n p) n p) (letter-back (suc m) p D).0)
 
 pub levels-rebuild : (n : ℕ) (forward : Bool) (p : List ℕ) → 2 ≤ n → Derangement n p → rebuilt (levels forward n p) ≡ p

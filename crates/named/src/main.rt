@@ -1,5 +1,7 @@
 // What a plan names: judges the first 1,024 bytes of standard input as a plan, and prints how many ranks it names, of how many, and the gaps that it leaves; for a
 // refusal only its number and its place.
+#![tactic(auto)]
+
 ghost use Rattle.std.specs.Prelude.{◌≡◌, true};
 ghost use Rattle.plan_rules.specs.Planned.{device};
 ghost use Rattle.plan_rules.specs.Rules.{plan_ruled};

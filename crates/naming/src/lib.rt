@@ -1,4 +1,6 @@
 // What a plan names, as text: how many ranks, of how many there are, and the gaps that it leaves, in lines of key=value.
+#![tactic(auto)]
+
 ghost use Rattle.std.specs.Prelude.{◌≡◌, true, ◌+◌, ◌*◌, ◌≤◌, length};
 ghost use Rattle.line_format.specs.Calls.{over};
 ghost use Rattle.plan_rules.specs.Planned.{device};

@@ -1,5 +1,7 @@
 // The order printer: judges the first 1,024 bytes of standard input as a plan, takes every mark as run and prints every order; for a refusal only its number
 // and its place. It tells the command how many marks are to come and, buffer by buffer, how many have gone by.
+#![tactic(auto)]
+
 ghost use Rattle.std.specs.Prelude.{◌≡◌, true, ◌<◌};
 ghost use Rattle.printing.specs.Rehearsals.{state_of};
 ghost use Rattle.printing.specs.Progress.{to_go};
@@ -16,7 +18,7 @@ use words::Outcome;
 const JUDGED: usize = 1024;
 
 // A rehearsal after one buffer of its lines, and whether more are to come.
-#[derive(Drop)]
+#[derive(Clone, Copy)]
 struct Went {
     rehearsal: Rehearsal,
     more: bool,

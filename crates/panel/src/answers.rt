@@ -2,14 +2,14 @@
 use words::{Jack, Port, Refusal};
 
 // The port joined to a jack.
-#[derive(Drop)]
+#[derive(Clone, Copy)]
 pub enum Looked {
     Joined(Port),
     Refused(Refusal),
 }
 
 // The jack that holds a port.
-#[derive(Drop)]
+#[derive(Clone, Copy)]
 pub enum Found {
     Held(Jack),
     Refused(Refusal),

@@ -2,7 +2,7 @@
 use words::Jack;
 
 // The first fault of a pattern or a panel: none; a port outside 1..n; a port that an earlier jack, the second one, holds too; a port at its own jack.
-#[derive(Drop)]
+#[derive(Clone, Copy)]
 pub enum Fault {
     Sound,
     Outside(Jack),

@@ -1,7 +1,7 @@
 // What one level of a rank tells.
 
 // The step that makes a pattern, and the rank of the shorter pattern that it is made from.
-#[derive(Drop)]
+#[derive(Clone, Copy)]
 pub enum Origin {
     ByA(u8, u64),
     ByB(u8, u64),

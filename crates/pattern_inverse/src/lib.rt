@@ -1,4 +1,6 @@
 // A pattern accepted in one pass, which leaves a working copy of it and its inverse: at each port its jack, port 1 first.
+#![tactic(auto)]
+
 ghost use Rattle.std.specs.Prelude.{◌≡◌, ◌≤◌, length};
 ghost use Rattle.listing.specs.Limits.{most_ports};
 ghost use Rattle.pattern_inverse.specs.Judged.{Blank, Judged};

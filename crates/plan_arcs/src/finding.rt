@@ -15,7 +15,7 @@ use words::Leg;
 use words::limits::LEG_PLACES;
 
 // An arc of the circuit: so many ranks from a first one on.
-#[derive(Drop)]
+#[derive(Clone, Copy)]
 pub struct Arc {
     pub first: u64,
     pub many: u64,

@@ -14,7 +14,7 @@ use plan_rules::Plan;
 pub const GAP_NUMBERS: usize = 34;
 
 // How many different ranks a plan names, and how many gaps it leaves.
-#[derive(Drop)]
+#[derive(Clone, Copy)]
 pub struct Tally {
     pub named: u64,
     pub gaps: u64,

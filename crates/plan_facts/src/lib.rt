@@ -1,4 +1,6 @@
 // Facts as lines of key=value, in the format of plans.
+#![tactic(auto)]
+
 ghost use Rattle.std.specs.Prelude.{◌+◌, ◌≤◌, length};
 ghost use Rattle.text_numbers.specs.Decimal.{digits_of};
 ghost use Rattle.plan_lines.specs.Field.{field_text};

@@ -1,4 +1,6 @@
 // One line of key=value from a place of a text on: newline, key, number and value, in this order. A place is the index of a byte.
+#![tactic(auto)]
+
 ghost use Rattle.std.specs.Prelude.{◌≡◌, ◌≤◌, length, drop};
 ghost use Rattle.listing.specs.Limits.{largest64};
 ghost use Rattle.text_numbers.specs.Answers.{signed_is};
@@ -12,7 +14,7 @@ use words::refusals::at_line;
 use words::{Reason, Refusal, Signed};
 
 // The values that a line may have: with `-` before them or not, from low on and below `below`. Any other is refused.
-#[derive(Drop)]
+#[derive(Clone, Copy)]
 pub struct Values {
     pub sign: bool,
     pub low: u64,
@@ -21,14 +23,14 @@ pub struct Values {
 }
 
 // The bounds of a line's value: its place, and the place of the newline.
-#[derive(Drop)]
+#[derive(Clone, Copy)]
 pub enum Bounds {
     Value(usize, usize),
     Refused(Refusal),
 }
 
 // A number read from a line, and the place after the line. One without a sign does not go back.
-#[derive(Drop)]
+#[derive(Clone, Copy)]
 pub enum LineRead {
     Value(Signed, usize),
     Refused(Refusal),

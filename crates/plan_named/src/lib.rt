@@ -1,4 +1,6 @@
 // What a plan names, for planners before the campaign starts (request 1): how many different ranks, each once, and the gaps, the longest arcs no leg names.
+#![tactic(auto)]
+
 ghost use Rattle.std.specs.Prelude.{◌≡◌, true};
 ghost use Rattle.plan_rules.specs.Planned.{device};
 ghost use Rattle.plan_rules.specs.Places.{planned_of};
@@ -13,7 +15,7 @@ use words::refusals::nowhere;
 use words::{Outcome, Reason, Refusal};
 
 // What a plan's text answers: how many ranks it names and how many gaps it leaves, or its refusal.
-#[derive(Drop)]
+#[derive(Clone, Copy)]
 pub enum Survey {
     Names(Tally),
     Refused(Refusal),

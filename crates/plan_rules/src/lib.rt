@@ -1,4 +1,6 @@
 // A plan in places, and the legs that they hold: whether they are within the rules, a leg by its number, the marks before it. Inner pieces of the campaign.
+#![tactic(auto)]
+
 ghost use Rattle.std.specs.Prelude.{◌≡◌, true, cond, ◌≤◌, ◌<◌, take};
 ghost use Rattle.promise.specs.Plan.{leg_at, marks};
 ghost use Rattle.plan_rules.specs.Places.{leg_held};
@@ -11,7 +13,7 @@ use words::limits::{FEWEST_PORTS, LEG_PLACES, MOST_LEGS, MOST_PORTS};
 use words::signs::by_sign;
 
 // A plan: its ports, its legs, and for each leg the rank it starts at and its run. The places beyond the legs are 0.
-#[derive(Drop)]
+#[derive(Clone, Copy)]
 pub struct Plan {
     pub ports: u8,
     pub legs: u8,

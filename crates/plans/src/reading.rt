@@ -25,7 +25,7 @@ const PORTS_BELOW: u64 = MOST_PORTS as u64 + 1;
 const LEGS_BELOW: u64 = MOST_LEGS as u64 + 1;
 
 // A leg that was read, and the place after its lines.
-#[derive(Drop)]
+#[derive(Clone, Copy)]
 pub enum LegRead {
     Leg(Leg, usize),
     Refused(Refusal),

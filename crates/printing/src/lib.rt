@@ -1,5 +1,6 @@
 // Order lines in bulk: as many whole lines as fit a lent buffer, every mark taken as run. A rehearsal of a plan, not a campaign: what goes on from buffer to
 // buffer is no state of a campaign and carries no count.
+#![tactic(auto)]
 pub mod rehearsals;
 
 ghost use Rattle.std.specs.Prelude.{◌≡◌, ◌++◌, ◌-◌, ◌≤◌, length, take, drop};
@@ -16,7 +17,7 @@ use words::{Outcome, Refusal};
 
 // A rehearsal of a plan, every mark taken as run: the plan; the panel, 0 beyond the ports; the leg and step of the next mark, counted from 0; whether the end
 // is shown. It has no counts: those are a campaign's.
-#[derive(Drop)]
+#[derive(Clone, Copy)]
 pub struct Rehearsal {
     pub plan: Plan,
     pub panel: [u8; LONGEST],
@@ -26,14 +27,14 @@ pub struct Rehearsal {
 }
 
 // A text judged as a plan, and the rehearsal of it: at its first moment, or all zeros if it was refused.
-#[derive(Drop)]
+#[derive(Clone, Copy)]
 pub struct Rehearsed {
     pub judged: Outcome,
     pub rehearsal: Rehearsal,
 }
 
 // What was printed: so many bytes with more to come, so many with the end's line last, or not even one line.
-#[derive(Drop)]
+#[derive(Clone, Copy)]
 pub enum Filled {
     Lines(usize),
     Ended(usize),
@@ -41,21 +42,21 @@ pub enum Filled {
 }
 
 // What was printed, and the rehearsal that it leaves.
-#[derive(Drop)]
+#[derive(Clone, Copy)]
 pub struct Printed {
     pub rehearsal: Rehearsal,
     pub filled: Filled,
 }
 
 // What was printed, and the campaign that it leaves.
-#[derive(Drop)]
+#[derive(Clone, Copy)]
 struct Lined {
     campaign: Campaign,
     filled: Filled,
 }
 
 // What follows a line: more lines, none after the end's, or a refusal in its place.
-#[derive(Drop)]
+#[derive(Clone, Copy)]
 enum Sequel {
     More,
     Ended,
@@ -63,7 +64,7 @@ enum Sequel {
 }
 
 // What one request printed at a place: the place after its line, the campaign that it leaves, and what follows.
-#[derive(Drop)]
+#[derive(Clone, Copy)]
 struct Given {
     campaign: Campaign,
     at: usize,

@@ -1,6 +1,8 @@
 // The facts of a question, for who draws them: standard input is a pattern, a mark of a plan, or a whole plan, and the facts are lines of key=value. Of a mark
 // they are the cords of its pattern, and the orders from its own line to the next mark's or the end's; of a plan its legs, each with its first and last mark,
 // and what it names.
+#![tactic(auto)]
+
 ghost use Rattle.std.specs.Prelude.{◌≡◌, true, ◌≤◌, ◌<◌, length};
 ghost use Rattle.listing.specs.Limits.{most_ports};
 ghost use Rattle.promise.specs.Plan.{marks};
@@ -31,7 +33,7 @@ const JUDGED: usize = 1100;
 const MOST_REQUESTS: u8 = 22;
 
 // What a request gave: an order, a mark, the end, or nothing that could be written.
-#[derive(Drop)]
+#[derive(Clone, Copy)]
 enum Given {
     Order,
     Mark,
@@ -40,7 +42,7 @@ enum Given {
 }
 
 // The campaign after a request, and what it gave.
-#[derive(Drop)]
+#[derive(Clone, Copy)]
 struct Went {
     campaign: Campaign,
     given: Given,

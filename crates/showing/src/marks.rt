@@ -12,7 +12,7 @@ use printing::Rehearsal;
 use words::limits::LONGEST;
 
 // A leg by its number and a step of it, both counted from 0.
-#[derive(Drop)]
+#[derive(Clone, Copy)]
 pub struct MarkPlace {
     pub leg: u8,
     pub step: u64,

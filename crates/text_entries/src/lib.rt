@@ -1,5 +1,7 @@
 // A pattern read from one text: its entries in order, with commas between them. Every entry is judged, however many there are. Also the line that a text is,
 // and which entry is the first that is no number.
+#![tactic(auto)]
+
 ghost use Rattle.std.specs.Prelude.{◌≡◌, List, [], ◌∷◌, ◌++◌, ℕ, ◌≤◌, length};
 ghost use Rattle.listing.specs.Limits.{largest64};
 ghost use Rattle.words.specs.Meaning.{number_of};
@@ -18,7 +20,7 @@ use words::{Outcome, Reason};
 const MOST_ENTRY: u64 = 255;
 
 // A text judged, and the entries that it is, as bytes: the first len, and 0 beyond them. None if it was refused.
-#[derive(Drop)]
+#[derive(Clone, Copy)]
 pub struct Entries {
     pub judged: Outcome,
     pub len: usize,
@@ -26,7 +28,7 @@ pub struct Entries {
 }
 
 // The entries read so far: the first len bytes, as many as there are places for, and whether there were more.
-#[derive(Drop)]
+#[derive(Clone, Copy)]
 pub struct Held {
     pub bytes: [u8; LONGEST],
     pub len: usize,
@@ -34,7 +36,7 @@ pub struct Held {
 }
 
 // The entry that begins at a place: the last one, one with others after its comma, from a place on, or none that is a number.
-#[derive(Drop)]
+#[derive(Clone, Copy)]
 pub enum Entry {
     Last(u64),
     More(u64, usize),

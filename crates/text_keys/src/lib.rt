@@ -1,10 +1,12 @@
 // Texts cut where a byte stands, and keys compared as byte strings: what the readers of plans and of order lines share.
+#![tactic(auto)]
+
 ghost use Rattle.std.specs.Prelude.{◌≡◌};
 ghost use Rattle.text_keys.specs.Parts.{first_of, begins};
 ghost use Rattle.text_keys.specs.Answers.{found_is};
 
 // Where a byte was found, counted from 0, or that it is not there.
-#[derive(Drop)]
+#[derive(Clone, Copy)]
 pub enum Found {
     At(usize),
     Nowhere,

@@ -1,5 +1,7 @@
 // Ranks, dictionary numbers and patterns said in one another: reads lines from standard input, buffer by buffer, and prints the names of each pattern that they ask
 // for. The first line that is refused ends it: its refusal is printed with the line's number, and the command is told the line as well.
+#![tactic(auto)]
+
 ghost use Rattle.std.specs.Prelude.{◌+◌, ◌≤◌, ◌<◌, length};
 ghost use Rattle.io.specs.Counts.{IsPrefixLen};
 ghost use Rattle.listing.specs.Limits.{largest64};
@@ -21,7 +23,7 @@ const TURNS: u64 = 4503599627370494;
 
 // What goes on from turn to turn beside the bytes that are held at the front of the buffer: how many they are, whether whole lines are still among them, the ports so
 // far, 0 for none, and the number of the next line.
-#[derive(Drop)]
+#[derive(Clone, Copy)]
 struct Held {
     len: usize,
     full: bool,
@@ -30,14 +32,14 @@ struct Held {
 }
 
 // What a turn came to.
-#[derive(Drop)]
+#[derive(Clone, Copy)]
 enum Turn {
     On(Held),
     Over,
 }
 
 // How a line that is too long ends.
-#[derive(Drop)]
+#[derive(Clone, Copy)]
 enum Rest {
     Newline,
     Ended,

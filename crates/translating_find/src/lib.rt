@@ -1,4 +1,6 @@
 // The pattern that a line names: by its rank, by its dictionary number, or by its entries. It is put into a slice with as many bytes as there are ports.
+#![tactic(auto)]
+
 ghost use Rattle.std.specs.Prelude.{◌≡◌, ◌≤◌, length};
 ghost use Rattle.listing.specs.Listing.{at};
 ghost use Rattle.listing.specs.Limits.{most_ports};

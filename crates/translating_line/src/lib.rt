@@ -1,4 +1,6 @@
 // One line translated: the pattern that it names is found, and the line of its names is written.
+#![tactic(auto)]
+
 ghost use Rattle.std.specs.Prelude.{◌≡◌, ◌≤◌, length};
 ghost use Rattle.listing.specs.Limits.{most_ports};
 ghost use Rattle.line_format.specs.Calls.{over};
@@ -24,7 +26,7 @@ pub const LINE_BYTES: usize = 58;
 const PORTS_KEY: usize = 6;
 
 // What a line leaves and prints: the ports so far, 0 for none, and how many bytes its text has; or why it is refused.
-#[derive(Drop)]
+#[derive(Clone, Copy)]
 pub enum Translated {
     Went(u8, usize),
     Refused(Refusal),

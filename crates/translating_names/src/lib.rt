@@ -1,4 +1,5 @@
 // The names of a pattern, its rank, its dictionary number and its entries, written as one line.
+#![tactic(auto)]
 pub mod writing;
 
 ghost use Rattle.std.specs.Prelude.{◌≡◌, ◌≤◌, length};

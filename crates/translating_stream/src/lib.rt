@@ -1,5 +1,7 @@
 // A part of a text translated line by line, as far as it has whole lines and the buffer has room. What is left of it goes on with the next part, so that a text of any
 // length is translated in bounded memory.
+#![tactic(auto)]
+
 ghost use Rattle.std.specs.Prelude.{◌≡◌, ◌+◌, ◌≤◌, length, take, drop};
 ghost use Rattle.listing.specs.Limits.{largest64};
 ghost use Rattle.line_format.specs.Calls.{over};
@@ -12,7 +14,7 @@ use translating_names::NAMES_BYTES;
 use words::Refusal;
 
 // Why a part goes no further: what is left has no newline yet, the buffer may have no room for another line, or a line was refused.
-#[derive(Drop)]
+#[derive(Clone, Copy)]
 pub enum Stop {
     More,
     Full,
@@ -21,7 +23,7 @@ pub enum Stop {
 
 // How far a part went: the ports so far, 0 for none, the number of the next line, how many bytes of the text are used, and how many of the buffer. Where a line was
 // refused, the next line is that one.
-#[derive(Drop)]
+#[derive(Clone, Copy)]
 pub struct Part {
     pub ports: u8,
     pub line: u64,
@@ -31,7 +33,7 @@ pub struct Part {
 }
 
 // What one line came to: the ports so far and the places after it, in the text and in the buffer; or why there was none.
-#[derive(Drop)]
+#[derive(Clone, Copy)]
 enum Step {
     Went(u8, usize, usize),
     More,

@@ -1,27 +1,29 @@
 // The words of the bench as types. What each means, in numbers, stands in specs/.
+#![tactic(auto)]
+
 pub mod limits;
 pub mod refusals;
 pub mod shapes;
 pub mod signs;
 
 // A jack of the panel, counted from 1.
-#[derive(Drop)]
+#[derive(Clone, Copy)]
 pub struct Jack(pub u8);
 
 // A port of the switch, counted from 1. A jack and a port of the same number are two things.
-#[derive(Drop)]
+#[derive(Clone, Copy)]
 pub struct Port(pub u8);
 
 // A movement order of the robot: two jacks exchanged, or three turned (the first gets what the second held, the second what the third held,
 // the third what the first held).
-#[derive(Drop)]
+#[derive(Clone, Copy)]
 pub enum Order {
     Swap(Jack, Jack),
     Turn(Jack, Jack, Jack),
 }
 
 // A move from a pattern to its neighbour: nothing, one order, or two swaps.
-#[derive(Drop)]
+#[derive(Clone, Copy)]
 pub enum Move {
     Nothing,
     One(Order),
@@ -30,7 +32,7 @@ pub enum Move {
 
 // A line of the campaign: a movement order, a seat, where the cord at a jack is seated anew and the panel stays, a mark with its number and rank, the end with
 // the plan's marks.
-#[derive(Drop)]
+#[derive(Clone, Copy)]
 pub enum Line {
     Movement(Order),
     Seat(Jack),
@@ -39,7 +41,7 @@ pub enum Line {
 }
 
 // Why a call was refused: the paper's refusals, in the order of their numbers.
-#[derive(Drop)]
+#[derive(Clone, Copy)]
 pub enum Reason {
     Ports,
     Room,
@@ -62,7 +64,7 @@ pub enum Reason {
 
 // Where the fault is: at a jack of a pattern or panel, at a jack whose port an earlier jack, the second one, holds too, at a line of a plan, or at no place that
 // is said.
-#[derive(Drop)]
+#[derive(Clone, Copy)]
 pub enum Place {
     Nowhere,
     AtJack(Jack),
@@ -71,21 +73,21 @@ pub enum Place {
 }
 
 // A refusal: why, and where.
-#[derive(Drop)]
+#[derive(Clone, Copy)]
 pub struct Refusal {
     pub reason: Reason,
     pub place: Place,
 }
 
 // A number by its sign: so many ahead or, where it goes back, behind 0.
-#[derive(Drop)]
+#[derive(Clone, Copy)]
 pub struct Signed {
     pub back: bool,
     pub magnitude: u64,
 }
 
 // A leg of a plan: its first rank, whether it runs backward, and how many steps it has.
-#[derive(Drop)]
+#[derive(Clone, Copy)]
 pub struct Leg {
     pub start: u64,
     pub back: bool,
@@ -93,14 +95,14 @@ pub struct Leg {
 }
 
 // What a call answers that has nothing to give.
-#[derive(Drop)]
+#[derive(Clone, Copy)]
 pub enum Outcome {
     Accepted,
     Refused(Refusal),
 }
 
 // What a call answers that gives one number.
-#[derive(Drop)]
+#[derive(Clone, Copy)]
 pub enum Numbered {
     Is(u64),
     Refused(Refusal),
