@@ -1,5 +1,6 @@
 // A refusal as text: `refused=` with its number and `at=` with its place, each on a line of its own; and in words.
 #![tactic(auto)]
+
 pub mod wording;
 
 ghost use Rattle.std.specs.Prelude.{◌≡◌, ◌≤◌};

@@ -1,5 +1,6 @@
 // Orders and moves carried out on a lent panel, and panels in arrays.
 #![tactic(auto)]
+
 pub mod panels;
 
 ghost use Rattle.std.specs.Prelude.{◌≡◌, length};
