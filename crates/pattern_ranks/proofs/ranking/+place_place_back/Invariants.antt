@@ -1,0 +1,8 @@
+-- The measure of both: the ports fall at each call.
+use Rattle.pattern_ranks.proofs.ranking.+place_place_back.Given as goal
+
+abbrev pub decreases-place : goal.decreases-place
+decreases-place l = l.n
+
+abbrev pub decreases-place_back : goal.decreases-place_back
+decreases-place_back l = l.n

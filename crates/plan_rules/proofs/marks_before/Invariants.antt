@@ -1,0 +1,13 @@
+-- `plan_rules::marks_before` adds the marks of one leg more at each turn; all the marks of a plan within the rules fit 64 bits.
+use mathlib.Core.Path.{◌≡◌}
+use Prim.Native.Nat.{◌-◌, ◌≤◌}
+use lib.ListN.{take}
+use Rattle.promise.specs.Plan.{marks}
+use Rattle.plan_rules.specs.Rules.{legs_of}
+use Rattle.plan_rules.proofs.marks_before.Given as goal
+
+abbrev pub invariant-loop-at : goal.invariant-loop-at
+invariant-loop-at l = (l.at ≤ l.i) × (l.total ≡ marks (take l.at (legs_of l.p)))
+
+abbrev pub decreases-loop-at : goal.decreases-loop-at
+decreases-loop-at l = l.i - l.at
