@@ -1,5 +1,6 @@
 // Plans read from text: the plan, or the refusal with its line. What a text means stands in specs/.
 #![tactic(auto)]
+
 use plan_rules::Plan;
 use words::Outcome;
 

@@ -11,7 +11,7 @@ use borrow.Author.Rules.{rules}
 use Rattle.listing.specs.Limits.{most_ports}
 use Rattle.dictionary_walk.proofs.Flags.{frees-first}
 use Rattle.dictionary_walk.proofs.Jacks.{walks-first, own-least, here-most, looked}
-use Rattle.dictionary_walk.proofs.Turns.{Made, made-first, rest_below, made-port, made-on}
+use Rattle.dictionary_walk.proofs.Turns.{Made, made-first, rest_below, made-port, made-on, made_all}
 use Rattle.dictionary_walk.proofs.walk.put_numbered.Goals as goal
 
 pub loop-at-init : goal.loop-at-init
@@ -47,4 +47,4 @@ loop-at-preserved c =
     (omega arith, simp length-set c.loop-at.invariant.1, rw add-one (record { stands = c.leave-own.ensures.stands; owned = c.leave-own.ensures.own }), rw add-one on)
 
 pub returns : goal.returns
-returns c = c.loop-at.invariant.1
+returns c = made_all _ _ _ _ _ _ c.requires.2 c.loop-at.invariant.1 (omega arith) c.loop-at.invariant.0 c.loop-at.invariant.3

@@ -8,7 +8,7 @@ use Rattle.listing_course.specs.Seeking.{Lifted}
 use Rattle.pattern_moves.proofs.onward.lifted.Given as goal
 
 abbrev pub invariant-loop-m : goal.invariant-loop-m
-invariant-loop-m l = (2 ≤ l.m) × (l.m ≤ l.n) × Course l.levels l.m × Lifted l.levels l.from (move_of l.first) l.m (move_of l.v)
+invariant-loop-m l = (2 ≤ l.m) × (l.m ≤ l.n) × Course l.levels l.m × Lifted l.levels l.from (move_of l.fn.first) l.m (move_of l.v)
 
 abbrev pub decreases-loop-m : goal.decreases-loop-m
 decreases-loop-m l = l.n - l.m

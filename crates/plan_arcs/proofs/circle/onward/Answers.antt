@@ -1,0 +1,12 @@
+-- `plan_arcs::circle::onward`: the two cases of the definition, with the differences taken first so that no sum wraps.
+-- Assumes nothing.
+use native.Mathlib.Omega.{arith}
+use Rattle.listing.proofs.Numbers.{either}
+use Rattle.promise_arcs.proofs.Circle.{onward-cases}
+use Rattle.plan_arcs.proofs.circle.onward.Goals as goal
+
+pub returns-then-i-c : goal.returns-then-i-c
+returns-then-i-c c = either (onward-cases c.args.c c.args.a c.args.i) (λ w. omega arith) (λ w. omega arith)
+
+pub returns : goal.returns
+returns c = either (onward-cases c.args.c c.args.a c.args.i) (λ w. omega arith) (λ w. omega arith)
