@@ -1,5 +1,6 @@
 // What is still to come before a mark: the rank that a leg names, and the next order on the way to its pattern. Inner pieces of the campaign.
 #![tactic(auto)]
+
 pub mod along;
 pub mod coming;
 

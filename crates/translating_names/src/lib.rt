@@ -1,5 +1,6 @@
 // The names of a pattern, its rank, its dictionary number and its entries, written as one line.
 #![tactic(auto)]
+
 pub mod writing;
 
 ghost use Rattle.std.specs.Prelude.{◌≡◌, ◌≤◌, length};
