@@ -16,9 +16,10 @@ proofs_made() {
         sources
     )
 }
-# the programs that the commands run, and what each is made from as the proofs begin
+# the programs that the commands run and the libraries that C links, and what each is made from as the proofs begin
 proofs_programs=$(for command in bin/*; do [ ! -f "crates/${command#bin/}/src/main.rt" ] || echo "${command#bin/}"; done)
-for command in $proofs_programs; do proofs_made "$command" >"$proofs_out/$command"; done
+proofs_libraries=$(sed -n 's/^\([a-z_0-9]*\) staticlib:.*/\1/p' crates.txt)
+for crate in $proofs_programs $proofs_libraries; do proofs_made "$crate" >"$proofs_out/$crate"; done
 
 {
     rt ci 2>&1
@@ -70,5 +71,8 @@ if [ "$verdict" -eq 0 ] && [ "$ci_failed" -eq 0 ]; then
             (made_of "$command" && keep_program "$(cat "$proofs_out/$command")") || fail "the program $command, which rt ci made, cannot be kept"
         fi
     done
+    # what the libraries for C are made from was proved: tools/host-archive need not prove it once more
+    mkdir -p target/proved
+    for crate in $proofs_libraries; do cp "$proofs_out/$crate" "target/proved/$crate"; done
 fi
 rm -rf "$proofs_out"
