@@ -11,7 +11,7 @@
 #   own_word      a function: takes a word of the command line that is no option; `given` counts them
 # and then calls, in this order: options "$@"; build; spool, or stream where what is read may be of any length; run; finish.
 #
-# A Rattle program has no exit status. It tells on descriptor 3 how it ended (crates/console), and the statuses are given here:
+# A program's own status says only that it ended. It tells on descriptor 3 how it ended (crates/console), and the statuses are given here:
 printed_all=0   # all that was asked for is on standard output
 not_built=1     # the program cannot be built
 bad_usage=64    # an option, a word or a number of the command line that is none
