@@ -26,7 +26,7 @@ crossed() {
 crossed modulo_toward_zero even_block_not_reversed
 crossed even_block_not_reversed values_for_positions
 crossed values_for_positions modulo_toward_zero
-cp crates/listing/must-fail/b_adds_one_above_i_only.edit "$refusals_copy/crates/listing/must-fail/"
+cp crates/listing/must-fail/self_join_allowed.edit "$refusals_copy/crates/listing/must-fail/"
 (cd "$refusals_copy" && rt must-fail) >"$refusals_copy/log" 2>&1
 refusals_status=$?
 named=$(edits_judged "$refusals_copy" "$refusals_copy/log" | sed -n 's/^\([a-z_0-9]*\/[a-z_0-9]*\): it says .*/\1/p' | sort)
