@@ -11,7 +11,7 @@
 #   own_word      a function: takes a word of the command line that is no option; `given` counts them
 # and then calls, in this order: options "$@"; build; spool, or stream where what is read may be of any length; run; finish.
 #
-# A Rattle program has no exit status. It tells on descriptor 3 how it ended (crates/console), and the statuses are given here:
+# A program's own status says only that it ended. It tells on descriptor 3 how it ended (crates/console), and the statuses are given here:
 printed_all=0   # all that was asked for is on standard output
 not_built=1     # the program cannot be built
 bad_usage=64    # an option, a word or a number of the command line that is none
@@ -152,60 +152,42 @@ workplace() {
 
 # ---- building
 
-program=$root/target/bin/$name
-built=$root/target/built/$name
+. "$root/commands/made.sh"
 
-# the crates that the program is made of, itself among them
-crates_of_program() {
-    awk -v name="$name" '
-        { sub(/#.*/, ""); crate = $1; sub(/:.*/, "", crate); if (crate == "") next; there[crate] = 1; sub(/^[^:]*:/, ""); needs[crate] = $0 }
-        function add(crate,  list, n, i) {
-            if (!(crate in there) || crate in met) return
-            met[crate] = 1
-            n = split(needs[crate], list, " ")
-            for (i = 1; i <= n; i++) add(list[i])
-            print crate
-        }
-        END { add(name) }' "$root/crates.txt"
-}
-
-# what the program is made from: its crates, and the kit
-sources() {
-    (
-        cd "$root" || exit 1
-        cat "$kit/KIT-ID" crates.txt
-        for crate in $crates; do find "crates/$crate" -type f ! -path '*/must-fail/*' -print0; done | sort -z | xargs -0 sha256sum
-    ) 2>/dev/null | sha256sum
-}
-
-# what was built: the sources, and the program that was made from them
-up_to_date() { [ -x "$program" ] && [ -f "$built" ] && [ "$(cat "$built")" = "$sum $(sha256sum <"$program")" ]; }
-
-# follow_build: what the prover says, kept in a file and told crate by crate
+# follow_build: what the prover says, kept in a file and told crate by crate. A crate that is the same as before it passes over without a word, so the crates that
+# are left are those that come after the one that is proved
 follow_build() {
-    proved=0
     : >"$work/log"
+    running=no
+    crate=''
     while IFS= read -r line; do
+        # what the program prints once it is built is no word of the prover
+        [ "$running" = no ] || continue
         printf '%s\n' "$line" >>"$work/log"
         case $line in
-            'rt: '*' proved (unchanged'*) proved=$((proved + 1)) ;;
-            'rt: '*' proved ('*)
-                crate=${line#rt: }
-                proved=$((proved + 1))
-                [ "$quiet" = yes ] || say_again "proved ${crate%% *}; $((total - proved)) of $total crates left"
+            "rt: running out/$name"*) running=yes ;;
+            'crate '*': modules '*)
+                crate=${line#crate }
+                crate=${crate%%:*}
+                ;;
+            'logic=proved '*)
+                left=$(echo "$crates" | awk -v crate="$crate" 'on { left++ } $0 == crate { on = 1 } END { print left + 0 }')
+                [ "$quiet" = yes ] || say_again "proved $crate; $left of $total crates left"
                 ;;
         esac
     done <"$work/said"
+    [ "$running" = yes ]
 }
 
 # Builds the program where it is missing or made from other sources. The sources are summed up before the build, so an edit that is made meanwhile is seen next
-# time; a lock keeps two builds apart; the prover runs in a group of its own, which ends with the command.
+# time; a lock keeps two builds apart; the prover runs in a group of its own, which ends with the command. `rt run` proves and builds the program and then runs
+# it: on an empty input, and what it prints goes nowhere.
 build() {
     rt=$(command -v rt) || give_up "$not_built" 'the command rt of the Rattle kit is not on PATH'
-    kit=${RATTLE_HOME:-$(dirname -- "$(dirname -- "$(readlink -f -- "$rt")")")}
-    crates=$(crates_of_program)
+    kit=$(dirname -- "$(dirname -- "$(readlink -f -- "$rt")")")
+    made_of "$name"
     sum=$(sources)
-    ! up_to_date || return 0
+    ! up_to_date "$sum" || return 0
     { mkdir -p "$root/target/built" && true >>"$root/target/lock"; } 2>/dev/null ||
         give_up "$not_built" "not built yet, and it cannot be built here: $root cannot be written"
     exec 9>>"$root/target/lock"
@@ -214,25 +196,23 @@ build() {
         flock 9
     fi
     sum=$(sources)
-    if ! up_to_date; then
+    if ! up_to_date "$sum"; then
         total=$(echo "$crates" | wc -l)
         [ "$quiet" = yes ] || complain "proving and building, once: $total crates, some minutes"
-        # a program that is not the one that was built is no one's: the kit would take it for its own
-        [ ! -f "$built" ] || [ ! -f "$program" ] || grep -qF "$(sha256sum <"$program")" "$built" || rm -f "$program" "$root/target/stamp/$name"
         workplace
         mkfifo "$work/said"
-        (cd "$root" && exec setsid "$rt" check "$name") </dev/null >"$work/said" 2>&1 9>&- &
+        (cd "$root/crates/$name" && exec setsid "$rt" run "$name") </dev/null >"$work/said" 2>&1 3>&- 9>&- &
         group=$!
         follow_build
-        wait "$group"
         built_well=$?
+        wait "$group"
         group=''
         close_again
         if [ "$built_well" -ne 0 ]; then
             cat "$work/log" >&2
             give_up "$not_built" "the program could not be built"
         fi
-        echo "$sum $(sha256sum <"$program")" >"$built.new" && mv "$built.new" "$built"
+        keep_program "$sum" 2>/dev/null || give_up "$not_built" "the program is built, and it cannot be kept: $root cannot be written"
         [ "$quiet" = yes ] || complain 'built'
     fi
     exec 9>&-
@@ -266,15 +246,6 @@ stream() {
     take_file
     : >"$work/text"
     streamed=yes
-}
-
-# as the kit runs its programs: its own loader and C library, and its emulator where the processor is another
-start_program() {
-    tools=$kit/toolchain
-    [ -d "$kit/on/$(uname -m)/toolchain" ] && tools=$kit/on/$(uname -m)/toolchain
-    emulator=$tools/bin/qemu-x86_64
-    [ -x "$emulator" ] || emulator=''
-    exec ${emulator:+"$emulator"} "$tools/lib/ld-linux-x86-64.so.2" --library-path "$tools/lib" "$program"
 }
 
 # percent DONE OF: a whole number, of numbers of any length, in $now. It is no command of its own: a signal that ended it would be told
@@ -316,7 +287,7 @@ run() {
     mkfifo "$work/told"
     # by a descriptor of its own, since what a shell starts in the background has no standard input
     if [ "$streamed" = yes ]; then exec 4<&0; else exec 4<"$work/text"; fi
-    start_program <&4 4<&- 3>"$work/told" &
+    "$program" <&4 4<&- 3>"$work/told" &
     child=$!
     exec 4<&-
     while IFS= read -r line; do

@@ -1,13 +1,13 @@
 # The libraries for this machine, target/host/libjidrofex.a and target/host/libjidrofex_benches.a, which the parts reference, benches, header, cuts and speed
-# link. Making them takes a minute of one processor, so they are begun here and made in the background while the types and the commands are tested. Two runs
-# of rt in one tree disturb each other, so the commands' programs are brought up to date first.
+# link, by tools/host-archive over what `rt ci` has proved. Making them takes some minutes of one processor, so they are begun here and made in the background
+# while the types and the commands are tested. Of two runs of rt in one crate the second waits, so the commands' programs are brought up to date first.
 archives='target/host/libjidrofex.a target/host/libjidrofex_benches.a'
 archive_maker=''
 
-# both are there, and neither is older than a file of crates/: else it would be a test of what was there before
+# both are there, and neither is older than a file of crates/ but those that rt makes: else it would be a test of what was there before
 archive_fresh() {
     for archive in $archives; do
-        [ -f "$archive" ] && [ -z "$(find crates -newer "$archive" -type f | head -n 1)" ] || return 1
+        [ -f "$archive" ] && [ -z "$(find crates -path 'crates/*/out' -prune -o -newer "$archive" -type f -print | head -n 1)" ] || return 1
     done
 }
 

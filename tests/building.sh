@@ -1,42 +1,50 @@
 # How a command builds its program: on a small tree of its own, with a stand-in for the prover that does what the test asks of it, and once with the kit itself.
 building_out=$(mktemp -d)
 tree=$building_out/tree
-mkdir -p "$tree/crates/words/src" "$tree/crates/orders/src" "$building_out/kit/bin" "$building_out/kit/toolchain/lib" "$building_out/room"
+mkdir -p "$tree/crates/words/src" "$tree/crates/orders/src" "$building_out/kit/bin" "$building_out/room"
 cp -R bin commands "$tree/"
 echo '// Nothing yet.' >"$tree/crates/words/src/lib.rt"
 cat >"$tree/crates/orders/src/main.rt" <<'MAIN'
 // Says that it ran.
-fn main() {
-    io::write_all(1, b"ran\n");
-    io::write_all(3, b"printed\n");
+#![tactic(auto)]
+
+use std::fs::OpenOptions;
+use std::io::Write;
+
+fn main(rt: HostRuntime) {
+    let mut output = rt.stdout();
+    let _ = output.write_all(b"ran\n");
+    if let Ok(mut told) = OpenOptions::new().append(true).open(&rt, "/dev/fd/3") {
+        let _ = told.write_all(b"printed\n");
+    }
 }
 MAIN
 echo ran >"$tree/crates/orders/stdout"
-printf 'words:\norders: words io\nother:\n' >"$tree/crates.txt"
+printf 'words:\norders: words\nother:\n' >"$tree/crates.txt"
 
-# the stand-in: `rt check NAME` runs the file `meanwhile` of the tree if there is one, tells crate after crate as the kit's rt does, and makes a program that says it
-# ran; in place of the kit's loader and emulator, what runs the program is its last word
+# the stand-in: `rt run NAME` runs the file `meanwhile` beside the tree if there is one, tells crate after crate as the kit's rt does, makes a program that says it
+# ran, and runs it as rt does
 cat >"$building_out/kit/bin/rt" <<'RT'
 #!/bin/sh
-echo begin >>../builds
-echo 'rt: words proved (1 s)'
-[ ! -f ../meanwhile ] || . ../meanwhile
-mkdir -p target/bin
-printf '#!/bin/sh\necho ran\necho printed >&3\n' >"target/bin/$2"
-chmod +x "target/bin/$2"
-echo "rt: $2 proved (2 s)"
-echo end >>../builds
+echo begin >>../../../builds
+echo 'rt: chose --jobs 2 for words'
+echo 'crate words: modules loaded=0 checked=3'
+echo 'logic=proved functions=0'
+[ ! -f ../../../meanwhile ] || . ../../../meanwhile
+mkdir -p out
+printf '#!/bin/sh\necho ran\nif { true >&3; } 2>/dev/null; then echo printed >&3; fi\n' >"out/$2"
+chmod +x "out/$2"
+echo "crate $2: modules loaded=0 checked=83"
+echo 'logic=proved functions=3'
+echo end >>../../../builds
+echo "rt: running out/$2; to give it other input, run that file yourself"
+exec "out/$2"
 RT
-cat >"$building_out/kit/toolchain/lib/ld-linux-x86-64.so.2" <<'LOADER'
-#!/bin/sh
-shift 2
-exec "$@"
-LOADER
-chmod +x "$building_out/kit/bin/rt" "$building_out/kit/toolchain/lib/ld-linux-x86-64.so.2"
+chmod +x "$building_out/kit/bin/rt"
 echo 'a stand-in' >"$building_out/kit/KIT-ID"
 
 # stood_in COMMAND..: with the stand-in as the kit, temporary files in a folder of the test; in a process of its own, which becomes the command
-stood_in() (exec env -u RATTLE_HOME PATH="$building_out/kit/bin:$PATH" TMPDIR="$building_out/room" "$@")
+stood_in() (exec env PATH="$building_out/kit/bin:$PATH" TMPDIR="$building_out/room" "$@")
 # built LABEL STATUS BUILDS SAID: the command run in the tree ends so, after so many builds in all, and says that, lines with ' / ' between them
 built() {
     stood_in "$tree/bin/orders" $building_words </dev/null >"$building_out/found" 2>"$building_out/said"
@@ -65,7 +73,7 @@ built 'another kit is seen' 0 3 "$whole"
 mkdir -p "$tree/crates/other/src"
 echo '// Another.' >"$tree/crates/other/src/lib.rt"
 built 'an edit of another crate is not' 0 3 ''
-echo 'echo "// Later." >>crates/words/src/lib.rt; rm ../meanwhile' >"$building_out/meanwhile"
+echo 'echo "// Later." >>../words/src/lib.rt; rm ../../../meanwhile' >"$building_out/meanwhile"
 echo '// More.' >>"$tree/crates/words/src/lib.rt"
 built 'an edit, and another made while it is built' 0 4 "$whole"
 built 'the one that was made meanwhile is seen' 0 5 "$whole"
@@ -78,7 +86,8 @@ building_words=''
 # a build that fails: the prover's words, status 1, and it is tried again
 echo 'echo "words/src/lib.rt:1:1: error"; exit 1' >"$building_out/meanwhile"
 echo '// Wrong.' >>"$tree/crates/words/src/lib.rt"
-failing='orders: proving and building, once: 2 crates, some minutes / orders: proved words; 1 of 2 crates left / rt: words proved (1 s)'
+failing='orders: proving and building, once: 2 crates, some minutes / orders: proved words; 1 of 2 crates left / rt: chose --jobs 2 for words'
+failing="$failing / crate words: modules loaded=0 checked=3 / logic=proved functions=0"
 failing="$failing / words/src/lib.rt:1:1: error / orders: the program could not be built"
 built 'a build that fails' 1 7 "$failing"
 built 'is tried again' 1 8 "$failing"
@@ -105,7 +114,7 @@ fi
 
 # Ctrl-C: a signal to the command's group while the prover has a job of its own in the background. Nothing is left: no process, no temporary file, no lock.
 # The signals are set as a terminal's shell has them, since a test command that runs in the background ignores them.
-echo 'sleep 30 & echo $! >../job; wait' >"$building_out/meanwhile"
+echo 'sleep 30 & echo $! >../../../job; wait' >"$building_out/meanwhile"
 runs() { [ -e "/proc/$1/stat" ] && ! grep -q ') Z ' "/proc/$1/stat"; }
 for signal in INT TERM HUP; do
     rm -f "$building_out/job" "$tree/target/bin/orders"
@@ -166,7 +175,7 @@ else
 fi
 
 # with the kit: the same words, of what its rt says
-rm -rf "$tree/target"
+rm -rf "$tree/target" "$tree/crates/orders/out"
 found=$(TMPDIR=$building_out/room "$tree/bin/orders" </dev/null 2>&1 | awk '{ printf "%s%s", (NR > 1 ? " / " : ""), $0 }')
 if [ "$found" = "$whole / ran" ]; then
     pass 'building: with the kit it tells crate by crate, and runs'

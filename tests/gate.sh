@@ -1,15 +1,21 @@
 # The gate's own tests: a copy of the tree with one thing wrong must fail, for that reason, and say so in its last line. A copy runs the parts that are looked
 # at before any proof, and no copy makes copies, so each takes a moment whatever is wrong. How the proofs and the edits are judged is tried on a small tree.
-type edits_there >/dev/null 2>&1 || . "$root/tests/edits.sh"
-type edits_tried >/dev/null 2>&1 || . "$root/tests/tried.sh"
+type edits_there >/dev/null 2>&1 || . "$root/tests/edited.sh"
 gate_copies=$(mktemp -d)
 trap 'rm -rf "$gate_copies"' EXIT
 
 # the tree without what was built, copied once
 gate_whole=$gate_copies/whole
-mkdir "$gate_whole"
-for entry in .ci *; do
-    [ "$entry" = target ] || cp -R "$entry" "$gate_whole/"
+mkdir -p "$gate_whole/crates"
+for entry in .ci * crates/*; do
+    case $entry in
+        target | crates) ;;
+        crates/*)
+            mkdir "$gate_whole/$entry"
+            for part in "$entry"/*; do [ "$part" = "$entry/out" ] || cp -R "$part" "$gate_whole/$entry/"; done
+            ;;
+        *) cp -R "$entry" "$gate_whole/" ;;
+    esac
 done
 
 # copy LABEL: a copy of that; its folder is $gate_copy. Its files are links to those of the first copy, so one that is changed is put in place anew, by written
@@ -92,6 +98,7 @@ changed roof-leaned-on-by-benches crates.txt 's/^benches_calls:/benches_calls: d
 changed benches-leaned-on crates.txt 's/^orders:/orders: benches_laws/' 'a crate that depends on several benches, a product of its own: orders'
 changed roof-of-benches-leaned-on crates.txt 's/^benches_text:/benches_text: benches_demands/' \
     'a crate that depends on the roof of several benches, benches_demands: benches_text'
+changed static-library-leaned-on crates.txt 's/^demands:/demands: face_c/' 'a crate that depends on the static library face_c: demands'
 changed room-after-its-own crates.txt 's/^text_keys:/text_keys: panel/' 'a crate that leans on a room after its own: text_keys on panel'
 
 # ---- the plans
@@ -110,7 +117,12 @@ changed claim-changed docs/USING.md 's/A call takes less than 8 KiB/A call takes
 changed contract-that-no-law-holds crates/patterns/proofs/Contracts.antt '/^pub rank-says/d' 'a call whose contract no law holds: rank-says of patterns'
 changed contract-of-benches-that-no-law-holds crates/benches_face/proofs/Contracts.antt '/^pub version-says/d' \
     'a call whose contract no law holds: version-says of benches_face'
-changed call-without-its-field crates/demands/specs/Only.antt '/^  pub faceRequest /d' 'a call whose contract no law holds: a field for jidrofex_request of face_campaign'
+changed call-without-its-field crates/demands/specs/Only.antt '/^  pub face_request /d' 'a call whose contract no law holds: a field for jidrofex_request of face_campaign'
+changed call-exported-with-another-clause crates/face_c/src/lib.rt 's/number_told (check_as true/number_told (check_as false/' \
+    'jidrofex_check: not the signature and the clauses of face_patterns'
+changed call-exported-with-another-body crates/face_c/src/lib.rt 's/face_patterns::jidrofex_next(pattern, answer)/face_patterns::jidrofex_previous(pattern, answer)/' \
+    'jidrofex_next: it does something else than to call face_patterns::jidrofex_next'
+changed call-that-is-not-exported crates/benches_c/src/lib.rt '/^#\[unsafe(no_mangle)\]$/d' 'jidrofex_benches_share: it is not exported under its name'
 
 # ---- the edits
 copy edit-removed
@@ -123,17 +135,19 @@ changed edit-of-a-text-that-is-gone crates/listing/specs/Around.antt 's/^modulo 
 
 # ---- the proofs and the edits, on a tree of a library of one function, and at last a program that prints nothing: there the part proofs takes seconds
 small=$gate_copies/small
-mkdir -p "$small/tests" "$small/crates/seven/src" "$small/crates/seven/must-fail"
+mkdir -p "$small/tests" "$small/commands" "$small/crates/seven/src" "$small/crates/seven/must-fail"
 cp test "$small/"
-cp tests/proofs.sh tests/tried.sh "$small/tests/"
-sed 's/^edits_at_least=.*/edits_at_least=1/' tests/edits.sh >"$small/tests/edits.sh"
+cp tests/proofs.sh tests/edited.sh "$small/tests/"
+cp commands/made.sh "$small/commands/"
 echo 'seven:' >"$small/crates.txt"
 cat >"$small/crates/seven/src/lib.rt" <<'END'
 // The answer is 7.
-ghost use mathlib.Core.Path.{_≡_};
+#![tactic(auto)]
+
+ghost use Rattle.std.specs.Prelude.{◌≡◌};
 
 pub fn seven() -> usize
-    ensures { λ r. ⌜ r ≡ 7 ⌝ }
+    ensures { result ≡ 7 }
 {
     7
 }
@@ -145,7 +159,7 @@ small_edit() { printf '# refused at: %s\nfile: src/lib.rt\nold: %s\nnew: %s\n' "
 # small_fails LABEL COUNT WORDS..: the part proofs of the small tree says each of the words, and its last line is the count
 small_fails() {
     small_label=$1 small_count=$2
-    out=$(cd / && EDITS='' "$small/test" proofs 2>&1)
+    out=$(cd / && "$small/test" proofs 2>&1)
     if [ "$(echo "$out" | tail -n 1)" != "$small_count" ]; then
         echo "$out" | tail -n 12
         fail "gate: $small_label: the proofs of the small tree do not end in '$small_count'"
@@ -159,34 +173,27 @@ small_fails() {
 }
 
 small_edit is_refused 'seven returns' '    7' '    8'
-small_fails 'the proofs of a small tree with nothing wrong pass' '3 passed, 0 failed' 'edits: 1 refused, 0 not:'
+small_fails 'the proofs of a small tree with nothing wrong pass' '3 passed, 0 failed' 'must-fail edits: 1 refused' 'all 1 edits are refused, and none is bad'
 
-# beside the edit that is refused: one that changes a comment, one that the compiler refuses, one that is refused elsewhere than it says
+# beside the edit that is refused: one that changes a comment, one that is refused elsewhere than it says
 small_edit is_survivor 'seven returns' 'The answer is 7.' 'The answer is 8.'
-small_edit is_unread 'seven returns' 'pub fn seven' 'pub fun seven'
 small_edit is_elsewhere 'seven loops' '    7' '    6'
-small_fails 'an edit that is not refused and one that does not reach the prover are told' '4 passed, 2 failed' \
-    'edit seven/is_survivor: NOT REFUSED: the crate is still proved with this edit' 'the edit seven/is_survivor is not refused by the prover' \
-    'edit seven/is_unread: BAD EDIT: it did not reach the prover' 'the edit seven/is_unread is not refused by the prover' 'edits: 2 refused, 2 not:'
-found=$(edits_judged "$small" | cut -d: -f1)
+small_fails 'an edit that is not refused is told' '3 passed, 1 failed' 'must-fail seven/is_survivor.edit: NOT REFUSED'
+found=$(edits_judged "$small" "$small/target/rt-ci.log" | cut -d: -f1)
 case $(echo $found) in
-    'seven/is_elsewhere seven/is_survivor seven/is_unread') pass 'gate: an edit that is refused elsewhere than it says is told' ;;
+    'seven/is_elsewhere seven/is_survivor') pass 'gate: an edit that is refused elsewhere than it says is told' ;;
     *) fail "gate: of the small tree's edits these are told as refused elsewhere: $(echo $found)" ;;
 esac
 
-# what part edits would see before any proof: the way to try an edit sees it too
+# what rt lets pass: edits that the compiler refuses, or whose old texts do not stand once
 rm "$small"/crates/seven/must-fail/*
+small_edit is_refused 'seven returns' '    7' '    8'
+small_edit is_unread 'seven returns' 'pub fn seven' 'pub fun seven'
 small_edit is_gone 'seven returns' '    9' '    8'
 small_edit is_twice 'seven returns' '7' '8'
-found=$(edits_tried "$small")
-if [ $? -eq 0 ]; then
-    fail 'gate: edits whose old texts do not stand once are taken as refused'
-elif [ "$(echo "$found" | sort | tr '\n' '/')" != "$(printf '%s/' 'edit seven/is_gone: BAD EDIT: an old text is not in src/lib.rt' \
-    'edit seven/is_twice: BAD EDIT: an old text is in src/lib.rt more than once' 'edits: 0 refused, 2 not: seven/is_twice seven/is_gone')" ]; then
-    fail "gate: of edits whose old texts do not stand once it is said: $found"
-else
-    pass 'gate: edits whose old texts do not stand once are told'
-fi
+small_fails 'edits that cannot be applied or read are told' '2 passed, 1 failed' 'must-fail edits: 1 refused, 3 bad' \
+    'must-fail seven/is_unread.edit: BAD EDIT: it did not reach the prover' "must-fail seven/is_gone.edit: BAD EDIT: an 'old:' text is in src/lib.rt 0 times" \
+    "must-fail seven/is_twice.edit: BAD EDIT: an 'old:' text is in src/lib.rt 3 times" '3 edits cannot be applied, compiled or read'
 
 # a crate that is not proved, and beside it a program that is and writes something else
 sed 's/^    7$/    8/' "$small/crates/seven/src/lib.rt" >"$small/wrong"
@@ -195,19 +202,47 @@ rm "$small"/crates/seven/must-fail/*
 small_edit is_refused 'seven returns' '    8' '    9'
 echo 'silent:' >>"$small/crates.txt"
 mkdir -p "$small/crates/silent/src"
-echo 'fn main() {}' >"$small/crates/silent/src/main.rt"
+printf '#![tactic(auto)]\n\nfn main() {}\n' >"$small/crates/silent/src/main.rt"
 echo 'a line' >"$small/crates/silent/stdout"
-small_fails 'a crate that is not proved and a program that writes something else are told' '1 passed, 3 failed' \
-    'seven is not proved from nothing' "silent: what the program wrote is not what its file 'stdout' has" \
-    "silent is proved, and does not write what its file 'stdout' has" 'the edits are not tried'
+small_fails 'a crate that is not proved and a program that writes something else are told' '1 passed, 2 failed' \
+    'rt: seven NOT PROVED' 'silent: what the program wrote, out/stdout, is not what its file stdout has' 'rt: FAILED: seven silent (run)'
+
+# a stand-in for rt that says less than it should: small_stands_in LABEL COUNT WORDS SAID STATUS
+small_stands_in() {
+    mkdir -p "$gate_copies/kit/bin"
+    printf '#!/bin/sh\n[ "$*" = ci ] || exit 2\ncat <<SAID\n%s\nSAID\nexit %s\n' "$4" "$5" >"$gate_copies/kit/bin/rt"
+    chmod +x "$gate_copies/kit/bin/rt"
+    gate_path=$PATH
+    PATH=$gate_copies/kit/bin:$PATH
+    small_fails "$1" "$2" "$3"
+    PATH=$gate_path
+}
+small_whole='rt: seven proved
+rt: silent proved
+rt: silent ran, and wrote what its file stdout has'
+small_ok='rt: ok; handles allowed: none; must-fail edits: 1 refused; every proof and must-fail edit was done in this run
+3 passed, 0 failed'
+small_stands_in 'the stand-in that says all passes' '4 passed, 0 failed' 'all 1 edits are refused' "$small_whole
+$small_ok" 0
+small_stands_in 'a crate that is passed over is told' '4 passed, 1 failed' 'seven is neither proved by this run nor kept' "$(echo "$small_whole" | sed 1d)
+$small_ok" 0
+small_stands_in 'a program that is not run is told' '4 passed, 1 failed' 'silent is proved, and it was not run' "$(echo "$small_whole" | sed '$d')
+$small_ok" 0
+small_stands_in 'an edit that is not tried is told' '3 passed, 1 failed' '0 edits are refused, and there are 1' "$small_whole
+$(echo "$small_ok" | sed 's/ must-fail edits: 1 refused;//')" 0
+small_stands_in 'a run with no line of its own is told' '3 passed, 1 failed' 'has no line `rt: ok`' "$small_whole
+3 passed, 0 failed" 0
+small_stands_in 'a status that is not 0 is told' '3 passed, 1 failed' 'rt ci ended with status 1' "$small_whole
+$small_ok" 1
+small_stands_in 'a run without its count is told' '0 passed, 1 failed' 'rt ci ended with status 0 and no count' "$small_whole" 0
 rm -rf "$small"
 
 # ---- the kit and the other tools
 on_path no-kit rt 'the command rt is missing'
-printf '#!/bin/sh\necho "rattle-kit-5 logic 0000000000000000"\n' >"$gate_copies/stand-in"
+printf '#!/bin/sh\necho "rattle-kit-13f logic 0000000000000000"\n' >"$gate_copies/stand-in"
 chmod +x "$gate_copies/stand-in"
-on_path other-kit rt "the kit is 'rattle-kit-5 logic 0000000000000000'"
-changed sum-without-its-grounds docs/DECISIONS.md '/^| `097e4c862dff5811`/d' 'docs/DECISIONS.md has other logic sums than those that are taken'
+on_path other-kit rt "the kit is 'rattle-kit-13f logic 0000000000000000'"
+changed sum-without-its-grounds docs/DECISIONS.md '/^| `dac8208d650f15bf`/d' 'docs/DECISIONS.md has other logic sums than those that are taken'
 on_path no-rustc rustc 'the command rustc is missing: install the Debian package rustc'
 on_path no-cc cc 'the command cc is missing: install the Debian package gcc'
 on_path no-c++ c++ 'the command c++ is missing: install the Debian package g++'

@@ -1,6 +1,6 @@
 # The headers: include/jidrofex.h and include/jidrofex_benches.h, each held to its code. A program in C that makes every call and uses every constant, through
-# the header alone, finds the answers that are known, built as C90 and as C++98. The declarations are those of the functions of crates/face_* or
-# crates/benches_face, and the declarations in Rust are the header's. The numbers at each call are those of demands.One.DemandOne or
+# the header alone, finds the answers that are known, built as C90 and as C++98. The declarations are those of the functions that
+# crates/face_c or crates/benches_c exports, and the declarations in Rust are the header's. The numbers at each call are those of demands.One.DemandOne or
 # benches_demands.Over.OverBenches, the constants those of the code. And this part itself: each header that is wrong in one thing is refused, and where it is
 # a constant, by the program in C.
 headers='jidrofex jidrofex_benches'
@@ -23,7 +23,8 @@ header_of() {
             header_whole=tests/reference/face.rs
             ;;
         jidrofex_benches)
-            header_sources='crates/benches_calls/src/*.rt crates/face_values/src/answers.rt crates/benches_face/src/*.rt crates/benches_demands/specs/Over.antt'
+            header_sources='crates/benches_calls/src/*.rt crates/face_values/src/answers.rt crates/benches_face/src/*.rt crates/benches_c/src/*.rt
+                crates/benches_demands/specs/Over.antt'
             header_record=benches_demands.Over.OverBenches
             header_alone=ACCEPTED
             header_c=tests/benches

@@ -1,7 +1,8 @@
 # The kit: `rt` is there, and it is one that these proofs are for. Two kits with one logic sum accept the same proofs, so a letter after the kit's number, and
 # `-plain` after the letter, are taken as they come and the sum is not. docs/DECISIONS.md has the same sums, and on what grounds each is taken.
-kit_name=rattle-kit-5
-kit_sums='064da1ca440f63e7 097e4c862dff5811'
+# An older kit's sums are no longer taken: the language, the library and the proofs' files have changed with the kit.
+kit_name=rattle-kit-13
+kit_sums='dac8208d650f15bf'
 kit_wanted="$kit_name with logic $(echo $kit_sums | sed 's/ / or /g')"
 if ! command -v rt >/dev/null 2>&1; then
     fail "the command rt is missing: install the Rattle kit, $kit_wanted, and put its bin folder on PATH"

@@ -1,6 +1,6 @@
 # The layout: crates.txt and the folders of crates/ name the same crates, README's tour names each of them, each stands in a room, the roof carries nothing but
 # the roof of several benches, and these are a product that nothing else rests on.
-listed=$(sed -e 's/#.*//' -e 's/:.*//' -e 's/[[:space:]]//g' crates.txt | grep -v '^$' | sort)
+listed=$(sed -e 's/#.*//' -e 's/^[[:space:]]*//' -e 's/[[:space:]:].*//' crates.txt | grep -v '^$' | sort)
 folders=$(for folder in crates/*/; do basename "$folder"; done | sort)
 stray=$(for name in $folders; do echo "$listed" | grep -qx "$name" || echo "$name"; done)
 absent=$(for name in $listed; do [ -d "crates/$name" ] || echo "$name"; done)
@@ -28,7 +28,7 @@ fi
 climbing=$(awk -v rooms="$rooms" '
     BEGIN { n = split(rooms, room, " "); for (i = 1; i <= n; i++) { m = split(room[i], names, ":"); for (k = 1; k <= m; k++) floor[names[k]] = i } }
     function at(crate) { sub(/_.*/, "", crate); return floor[crate] }
-    { sub(/#.*/, ""); crate = $1; sub(/:.*/, "", crate); for (k = 2; k <= NF; k++) if (at($k) > at(crate)) print crate " on " $k }' crates.txt)
+    { sub(/#.*/, ""); crate = $1; sub(/:.*/, "", crate); sub(/^[^:]*:/, ""); for (k = 1; k <= NF; k++) if (at($k) > at(crate)) print crate " on " $k }' crates.txt)
 if [ -z "$climbing" ]; then
     pass "every crate knows only its own room and those before it"
 else
@@ -36,7 +36,7 @@ else
 fi
 
 # leaning REGEX: the crates that depend on a crate of such a name
-leaning() { sed -n "s/^\([a-z_0-9]*\):\(.* \)*$1\( .*\)*\$/\1/p" crates.txt; }
+leaning() { sed -n "s/^\([a-z_0-9]*\)[^:]*:\(.* \)*$1\( .*\)*\$/\1/p" crates.txt; }
 on_roof=$(leaning demands | grep -vx benches_demands)
 if [ -z "$on_roof" ]; then
     pass "no crate depends on demands but benches_demands"
@@ -55,3 +55,13 @@ if [ -z "$on_benches_roof" ]; then
 else
     fail "a crate that depends on the roof of several benches, benches_demands: $(echo $on_benches_roof)"
 fi
+# what C links: a static library, on which no crate can depend, so that each call stands in a library beneath it
+for library in face_c benches_c; do
+    if ! grep -q "^$library staticlib:" crates.txt; then
+        fail "crates.txt does not have $library as a static library"
+    elif [ -n "$(leaning "$library")" ]; then
+        fail "a crate that depends on the static library $library: $(echo $(leaning "$library"))"
+    else
+        pass "$library is a static library, and no crate depends on it"
+    fi
+done

@@ -1,108 +1,78 @@
-# The proofs from nothing, shown as they go: every crate, what every program writes, and every edit that must be refused. It says what `rt ci` says, which
-# checks a whole crate anew for each edit; `EDITS=anew ./test proofs` is `rt ci` itself. What is trusted beyond it: the prover, over the modules that the
-# proof from nothing left, does not elaborate those again that an edit does not touch (tests/tried.sh). That can only make a refusal come sooner and never
-# makes a proof: whether a crate is proved is said by the proof from nothing alone, and an edit that is wrongly taken as proved is a failure. rt waits for
-# each batch of crates before it starts the next, so batches of six keep two processors busy where batches of two would leave one idle.
-type edits_judged >/dev/null 2>&1 || . "$root/tests/edits.sh"
-. "$root/tests/tried.sh"
+# The proofs: `rt ci` as it is, on the tree as it stands, shown as it goes. It proves every crate and its tests, tries every edit that must be refused, and runs
+# every program as two compilers build it; its last line is counted into ours. What an earlier run passed on this machine it takes by the checksums of all that
+# was read, and of that it proves and tries nothing again. It lets pass edits that cannot be applied or read, and says how many: here there may be none, and as
+# many are refused as there are. What it said of each edit is looked at by the part refusals, and the programs that it made are those that the commands run.
+type edits_of >/dev/null 2>&1 || . "$root/tests/edited.sh"
+. "$root/commands/made.sh"
+mkdir -p target
+proofs_log=$root/target/rt-ci.log
 proofs_out=$(mktemp -d)
 
-# proofs_run COMMAND..: runs it and shows what it says, which is then in $proofs_out/log; $verdict is its status and $last its last line
-proofs_run() {
-    {
-        GLIBC_TUNABLES=${GLIBC_TUNABLES:-$tried_memory} RT_JOBS=${RT_JOBS:-6} "$@" 2>&1
-        echo $? >"$proofs_out/status"
-    } | tee "$proofs_out/log"
-    verdict=$(cat "$proofs_out/status")
-    last=$(tail -n 1 "$proofs_out/log")
+# proofs_made NAME: a sum of what the program is made from, as the commands have it
+proofs_made() {
+    (
+        kit=$(dirname -- "$(dirname -- "$(readlink -f -- "$(command -v rt)")")")
+        made_of "$1"
+        sources
+    )
 }
+# the programs that the commands run and the libraries that C links, and what each is made from as the proofs begin
+proofs_programs=$(for command in bin/*; do [ ! -f "crates/${command#bin/}/src/main.rt" ] || echo "${command#bin/}"; done)
+proofs_libraries=$(sed -n 's/^\([a-z_0-9]*\) staticlib:.*/\1/p' crates.txt)
+for crate in $proofs_programs $proofs_libraries; do proofs_made "$crate" >"$proofs_out/$crate"; done
 
-# proofs_anew: `rt ci` as it is; its own last line is counted into ours
-proofs_anew() {
-    proofs_run rt ci
-    case $last in
-        [0-9]*' passed, '[0-9]*' failed')
-            ci_passed=${last%% passed*}
-            ci_failed=${last#*, }
-            ci_failed=${ci_failed%% failed}
-            passed=$((passed + ci_passed))
-            failed=$((failed + ci_failed))
-            [ "$verdict" -eq 0 ] || [ "$ci_failed" -gt 0 ] || fail "rt ci ended with status $verdict"
-            ;;
-        *) fail "rt ci ended with status $verdict and no count" ;;
-    esac
-}
+{
+    rt ci 2>&1
+    echo $? >"$proofs_out/status"
+} | tee "$proofs_log"
+verdict=$(cat "$proofs_out/status")
+last=$(tail -n 1 "$proofs_log")
+case $last in
+    [0-9]*' passed, '[0-9]*' failed')
+        ci_passed=${last%% passed*}
+        ci_failed=${last#*, }
+        ci_failed=${ci_failed%% failed}
+        passed=$((passed + ci_passed))
+        failed=$((failed + ci_failed))
+        [ "$verdict" -eq 0 ] || [ "$ci_failed" -gt 0 ] || fail "rt ci ended with status $verdict"
+        ;;
+    *)
+        ci_failed=1
+        fail "rt ci ended with status $verdict and no count"
+        ;;
+esac
 
-# rt_checked: `rt check`, with room for the prover. It is a group of processes of its own, so that what interrupts us can end all of it before its room is
-# removed: a prover that goes on would make the room anew.
-rt_checked() (
-    prover_room || exit 1
-    checking=''
-    trap '[ -z "$checking" ] || { kill -TERM "-$checking"; wait; sleep 1; } 2>/dev/null; rm -rf "$room"' EXIT
-    trap 'exit 130' INT
-    trap 'exit 143' TERM HUP
-    TMPDIR=$room setsid rt check &
-    checking=$!
-    wait "$checking"
-    status=$?
-    checking=''
-    exit "$status"
-)
-
-# proofs_of_crates: every crate from nothing, and what every program writes, as `rt ci` has it: target/ is removed, whatever it is, and `rt check` then proves
-# every crate and, once all is proved, runs each program. (`rt prove` runs none, and `rt check` after it would prove the programs once more.) A crate of
-# crates.txt that was not proved in this very run, or a program that did not run, is a failure whatever rt ends with.
-proofs_of_crates() {
-    proofs_wrong=1 proofs_right=0
-    rm -rf target
-    if [ -e target ] || [ -L target ]; then
-        fail 'target/ cannot be removed, so nothing can be proved from nothing'
-        return
-    fi
-    proofs_run rt_checked
-    proofs_wrong=0
-    for crate in $(sed -n 's/^[ \t]*\([A-Za-z_][A-Za-z0-9_]*\)[ \t]*:.*/\1/p' crates.txt); do
-        if ! grep -q "^rt: $crate proved ([0-9]* s)\$" "$proofs_out/log"; then
-            fail "$crate is not proved from nothing"
-            proofs_wrong=$((proofs_wrong + 1))
-        elif [ -f "crates/$crate/src/main.rt" ] && ! grep -q "^rt: $crate ran.*, and wrote what its file 'stdout' has" "$proofs_out/log"; then
-            fail "$crate is proved, and does not write what its file 'stdout' has"
-            proofs_wrong=$((proofs_wrong + 1))
-        else
-            proofs_right=$((proofs_right + 1))
+# what it lets pass, and what it may not leave out
+if [ "$verdict" -eq 0 ] && [ "$ci_failed" -eq 0 ]; then
+    for crate in $(sed -e 's/#.*//' -e 's/^[[:space:]]*//' -e 's/[[:space:]:].*//' crates.txt); do
+        if ! grep -Eq "^rt: $crate (proved|is kept: .*)\$" "$proofs_log"; then
+            fail "$crate is neither proved by this run nor kept from an earlier one"
+        elif [ -f "crates/$crate/src/main.rt" ] && ! grep -qx "rt: $crate ran, and wrote what its file stdout has" "$proofs_log"; then
+            fail "$crate is proved, and it was not run, or does not write what its file stdout has"
         fi
     done
-    passed=$((passed + proofs_right))
-    [ "$verdict" -eq 0 ] && [ "$last" = "rt: ok, $proofs_right crates proved" ] || [ "$proofs_wrong" -gt 0 ] || {
-        fail "rt check ended with status $verdict: $last"
-        proofs_wrong=1
-    }
-}
-
-# proofs_of_edits: every edit below crates/ is refused
-proofs_of_edits() {
-    if [ "$proofs_wrong" -gt 0 ]; then
-        fail 'the edits are not tried, since not everything is proved without them'
-        return
+    proofs_ok=$(grep '^rt: ok' "$proofs_log" | tail -n 1)
+    proofs_refused=$(echo "$proofs_ok" | sed -n 's/.*; must-fail edits: \([0-9]*\) refused.*/\1/p')
+    proofs_bad=$(echo "$proofs_ok" | sed -n 's/.*; must-fail edits: [^;]*, \([0-9]*\) bad.*/\1/p')
+    proofs_edits=$(edits_of "$root" | wc -l)
+    if [ -z "$proofs_ok" ]; then
+        fail 'rt ci passed and has no line `rt: ok`'
+    elif [ "${proofs_bad:-0}" -ne 0 ]; then
+        grep 'BAD EDIT' "$proofs_log"
+        fail "$proofs_bad edits cannot be applied, compiled or read, so they show nothing"
+    elif [ "${proofs_refused:-0}" -ne "$proofs_edits" ]; then
+        fail "${proofs_refused:-0} edits are refused, and there are $proofs_edits"
+    else
+        pass "all $proofs_edits edits are refused, and none is bad"
     fi
-    proofs_run edits_tried "$root"
-    edits_refused=$(echo "$last" | sed -n 's/^edits: \([0-9]*\) refused, [0-9]* not:.*/\1/p')
-    edits_left=$(echo "$last" | sed -n 's/^edits: [0-9]* refused, [0-9]* not: *//p')
-    passed=$((passed + ${edits_refused:-0}))
-    for one in $edits_left; do fail "the edit $one is not refused by the prover"; done
-    if [ "$((${edits_refused:-0} + $(echo $edits_left | wc -w)))" -ne "$(edits_of "$root" | wc -l)" ]; then
-        fail "the edits were not all tried (status $verdict): $last"
-    elif [ "$verdict" -ne 0 ] && [ -z "$edits_left" ]; then
-        fail "the edits ended with status $verdict: $last"
-    fi
-}
-
-case ${EDITS:-} in
-    anew) proofs_anew ;;
-    '')
-        proofs_of_crates
-        proofs_of_edits
-        ;;
-    *) fail "EDITS is '$EDITS', and it may be 'anew' or nothing" ;;
-esac
+    # the programs as they were proved, unless a file of theirs changed meanwhile
+    for command in $proofs_programs; do
+        if [ "$(proofs_made "$command")" = "$(cat "$proofs_out/$command")" ] && [ -f "crates/$command/out/$command" ]; then
+            (made_of "$command" && keep_program "$(cat "$proofs_out/$command")") || fail "the program $command, which rt ci made, cannot be kept"
+        fi
+    done
+    # what the libraries for C are made from was proved: tools/host-archive need not prove it once more
+    mkdir -p target/proved
+    for crate in $proofs_libraries; do cp "$proofs_out/$crate" "target/proved/$crate"; done
+fi
 rm -rf "$proofs_out"

@@ -1,14 +1,15 @@
 # The types: code that takes a port where a jack is meant, or a jack where a port is meant, does not build, and the same code with the other does; so with a
 # rehearsal where a campaign is meant, and the reverse. Each probe that must not build is a crate of its own over the crates that it names, in a copy of the tree, since a
-# source file that does not build may not stand in the tree itself.
+# source file that does not build may not stand in the tree itself. `rt ci` of the copy takes what was proved of the crates up to `printing` as it is kept, and so
+# proves nothing but the probes.
 types_copy=$(mktemp -d)
-mkdir -p "$types_copy/crates" "$types_copy/target/rlib" "$types_copy/target/stamp"
-# with what is proved of the crates up to `printing`, so that nothing is proved again
+mkdir -p "$types_copy/crates"
 for types_crate in $(sed '/^printing:/q' crates.txt | cut -d: -f1); do
-    cp -R "crates/$types_crate" "$types_copy/crates/"
+    mkdir -p "$types_copy/crates/$types_crate"
+    for types_part in src specs proofs; do
+        [ ! -d "crates/$types_crate/$types_part" ] || cp -R "crates/$types_crate/$types_part" "$types_copy/crates/$types_crate/"
+    done
     grep "^$types_crate:" crates.txt >>"$types_copy/crates.txt"
-    cp -R "target/rlib/$types_crate.rlib" "$types_copy/target/rlib/"
-    cp -R "target/stamp/$types_crate" "$types_copy/target/stamp/"
 done
 
 # over NAME CRATES USES: probes from here on are over these CRATES, with what USES names; the right ones are modules of one crate, right_NAME
@@ -17,40 +18,46 @@ over() {
     types_over=$2
     types_uses=$3
     mkdir -p "$types_copy/crates/$types_right/src"
+    printf '#![tactic(auto)]\n\n' >"$types_copy/crates/$types_right/src/lib.rt"
     echo "$types_right: $types_over" >>"$types_copy/crates.txt"
-    types_rights="$types_rights $types_right"
+    types_crates="$types_crates $types_right"
 }
 
 # twins LABEL RIGHT WRONG ERROR LINES: LINES with WORD read as RIGHT is to build and be proved, read as WRONG to be refused with that mismatch of the types
-types_rights=''
+types_crates=''
 types_twins=''
 twins() {
     echo "pub mod $1;" >>"$types_copy/crates/$types_right/src/lib.rt"
-    printf '%s\n' "$types_uses" "$(echo "$5" | sed "s/WORD/$2/g")" >"$types_copy/crates/$types_right/src/$1.rt"
+    printf '%s\n\n' "$types_uses" "$(echo "$5" | sed "s/WORD/$2/g")" >"$types_copy/crates/$types_right/src/$1.rt"
     mkdir -p "$types_copy/crates/wrong_$1/src"
-    printf '%s\n' "$types_uses" "$(echo "$5" | sed "s/WORD/$3/g")" >"$types_copy/crates/wrong_$1/src/lib.rt"
+    printf '%s\n\n' '#![tactic(auto)]' "$types_uses" "$(echo "$5" | sed "s/WORD/$3/g")" >"$types_copy/crates/wrong_$1/src/lib.rt"
     echo "wrong_$1: $types_over" >>"$types_copy/crates.txt"
+    types_crates="$types_crates wrong_$1"
     types_twins="$types_twins$types_right $1 $2 $3 $4
 "
 }
+# types_said CRATE: what was said of the crate
+types_said() { awk -v crate="$1" '/^== / { on = $2 == crate } /^rt: / { on = 0 } on' "$types_copy/said"; }
 # judge: all probes at once, and what was said of each
 judge() {
-    (cd "$types_copy" && RT_JOBS=6 rt check $types_rights) >"$types_copy/rights" 2>&1
-    (cd "$types_copy" && RT_JOBS=6 rt check $(echo "$types_twins" | awk 'NF { print "wrong_" $2 }')) >"$types_copy/wrongs" 2>&1
+    for types_crate in $types_crates; do
+        (cd "$types_copy/crates/$types_crate" && rt fmt) >"$types_copy/said" 2>&1 || { cat "$types_copy/said"; fail "types: $types_crate cannot be laid out"; }
+    done
+    (cd "$types_copy" && rt ci) >"$types_copy/said" 2>&1
     while read -r crate label right wrong error; do
         [ -n "$label" ] || continue
-        if grep -q "^rt: $crate proved" "$types_copy/rights" && grep -qx "fn $crate::$label::probe: proved" "$types_copy/target/log/$crate.out"; then
+        if grep -qx "rt: $crate proved" "$types_copy/said" && types_said "$crate" | grep -qx "fn $crate::$label::probe: proved"; then
             pass "types: $label: with a $right it builds and is proved"
         else
-            cat "$types_copy/rights"
+            types_said "$crate"
             fail "types: $label: with a $right it does not build"
         fi
-        if grep -q "^rt: wrong_$label proved" "$types_copy/wrongs"; then
+        if ! grep -qx "rt: wrong_$label NOT PROVED" "$types_copy/said"; then
             fail "types: $label: with a $wrong it builds"
-        elif grep -qF "error[mismatched-types]: $error" "$types_copy/target/log/wrong_$label.out"; then
+        elif types_said "wrong_$label" | grep -qF "error[mismatched-types]: $error"; then
             pass "types: $label: with a $wrong it does not build"
         else
-            cat "$types_copy/wrongs"
+            types_said "wrong_$label"
             fail "types: $label: with a $wrong it is refused for another reason"
         fi
     done <<TWINS

@@ -1,4 +1,4 @@
-# What the code says of a header, in the lines of read.awk: the calls from the functions for C, the numbers of each call from the fields of a record of demands,
+# What the code says of a header, in the lines of read.awk: the calls from what its static library exports, the numbers of each call from the fields of a record of demands,
 # the refusals from `reason_number` or `fault_number`, the state's places and the other constants from where the code has them.
 # -v header=jidrofex, the header's name; the files are those that have all that
 
@@ -10,12 +10,12 @@ BEGIN {
     length_of["gaps"] = length_of["counts"] = "numbers"
     # the field that has the numbers of a call, of demands.One.DemandOne or of benches_demands.Over.OverBenches; 15 stands before those of a text that is read
     # into words
-    fields["jidrofex"] = "check:check check_panel:checkPanel count:count rank:rank unrank:unrank next:beside previous:beside step:step" \
-        " dictionary_number:dictionaryNumber dictionary_pattern:dictionaryPattern dictionary_next:dictionaryNext number_to_rank:numberToRank" \
-        " rank_to_number:rankToNumber port_at:portAt jack_of:jackOfPort" \
-        " carry:carry write_line:writeLine read_line:readLine begin:15+readPlan named:named status:status request:asked report:reported" \
-        " report_mark:reportedMark resume:resume rehearse:15+rehearse orders:fill refusal_words:refusalWords refusal_sentence:refusalSentence version:never"
-    fields["jidrofex_benches"] = "share:shareRefused sum:sumRefused version:never"
+    fields["jidrofex"] = "check:check check_panel:check_panel count:count rank:rank unrank:unrank next:beside previous:beside step:step" \
+        " dictionary_number:dictionary_number dictionary_pattern:dictionary_pattern dictionary_next:dictionary_next number_to_rank:number_to_rank" \
+        " rank_to_number:rank_to_number port_at:port_at jack_of:jack_of_port" \
+        " carry:carry write_line:write_line read_line:read_line begin:15+read_plan named:named status:status request:asked report:reported" \
+        " report_mark:reported_mark resume:resume rehearse:15+rehearse orders:fill refusal_words:refusal_words refusal_sentence:refusal_sentence version:never"
+    fields["jidrofex_benches"] = "share:share_refused sum:sum_refused version:never"
     # the constants that stand in the code, by the header's name less its beginning, and after it the code's where that is another
     names["jidrofex"] = "VERSION MOST_PORTS MOST_LEGS ANSWER_WORDS LINE_WORDS GAP_NUMBERS NOTHING SWAP TURN MARK END TWO_SWAPS SEAT RAN ERROR GAVE_UP"
     names["jidrofex_benches"] = "VERSION ANSWER_WORDS MOST:MOST_BENCHES COUNTS:PER_BENCH"
@@ -68,7 +68,7 @@ on && /\) -> / {
 
 # ---- numbers: the list of a field, after Refuses or a word that begins with it
 
-/^  pub [A-Za-z]+ :/ { field = $2 }
+/^  pub [A-Za-z_]+ :/ { field = $2 }
 /^  --/ { field = "" }
 field != "" && match($0, /Refuses[A-Za-z]* \([0-9]+ [^)]*\[\]\)/) && !(field in numbers) {
     list = substr($0, RSTART, RLENGTH)

@@ -54,8 +54,7 @@ fn give_sum(added: Sum, answer: &mut [u64; ANSWER_WORDS]) -> u8
 }
 
 // The version of the library.
-#[unsafe(no_mangle)]
-pub extern "C" fn jidrofex_benches_version(answer: &mut [u64; ANSWER_WORDS]) -> u8
+pub fn jidrofex_benches_version(answer: &mut [u64; ANSWER_WORDS]) -> u8
     ensures number { result ≡ number_told version_told }
     ensures words { answer.new ≡ words_told one_number version_told }
 {
@@ -63,8 +62,7 @@ pub extern "C" fn jidrofex_benches_version(answer: &mut [u64; ANSWER_WORDS]) -> 
 }
 
 // The share of a bench.
-#[unsafe(no_mangle)]
-pub extern "C" fn jidrofex_benches_share(
+pub fn jidrofex_benches_share(
     ports: u64,
     benches: u64,
     bench: u64,
@@ -77,8 +75,7 @@ pub extern "C" fn jidrofex_benches_share(
 }
 
 // The counts of all benches.
-#[unsafe(no_mangle)]
-pub extern "C" fn jidrofex_benches_sum(
+pub fn jidrofex_benches_sum(
     ports: u64,
     benches: u64,
     counts: &[u64],

@@ -79,12 +79,7 @@ fn give_where(found: Where, answer: &mut [u64; ANSWER_WORDS]) -> u8
 // ---- the calls
 
 // The first state of the plan that the text is.
-#[unsafe(no_mangle)]
-pub extern "C" fn jidrofex_begin(
-    text: &[u8],
-    state: &mut [u64],
-    answer: &mut [u64; ANSWER_WORDS],
-) -> u8
+pub fn jidrofex_begin(text: &[u8], state: &mut [u64], answer: &mut [u64; ANSWER_WORDS]) -> u8
     ensures number { result ≡ number_told (begin_told text.now state.old) }
     ensures words { answer.new ≡ words_told nothing (begin_told text.now state.old) }
     ensures left { state.new ≡ begin_words text.now state.old }
@@ -100,8 +95,7 @@ pub extern "C" fn jidrofex_begin(
 }
 
 // The next order, its line at the front of the buffer.
-#[unsafe(no_mangle)]
-pub extern "C" fn jidrofex_request(
+pub fn jidrofex_request(
     state: &mut [u64],
     buffer: &mut [u8],
     answer: &mut [u64; ANSWER_WORDS],
@@ -125,12 +119,7 @@ pub extern "C" fn jidrofex_request(
 }
 
 // What the bench says of the standing mark.
-#[unsafe(no_mangle)]
-pub extern "C" fn jidrofex_report(
-    state: &mut [u64],
-    kind: u8,
-    answer: &mut [u64; ANSWER_WORDS],
-) -> u8
+pub fn jidrofex_report(state: &mut [u64], kind: u8, answer: &mut [u64; ANSWER_WORDS]) -> u8
     ensures number { result ≡ number_told (called_told (report kind) state.old) }
     ensures words { answer.new ≡ words_told nothing (called_told (report kind) state.old) }
     ensures left { state.new ≡ called_words (report kind) state.old }
@@ -149,8 +138,7 @@ pub extern "C" fn jidrofex_report(
 }
 
 // What the bench says of the mark with this number.
-#[unsafe(no_mangle)]
-pub extern "C" fn jidrofex_report_mark(
+pub fn jidrofex_report_mark(
     state: &mut [u64],
     mark: u64,
     kind: u8,
@@ -174,8 +162,7 @@ pub extern "C" fn jidrofex_report_mark(
 }
 
 // Where a campaign is.
-#[unsafe(no_mangle)]
-pub extern "C" fn jidrofex_status(state: &[u64], answer: &mut [u64; ANSWER_WORDS]) -> u8
+pub fn jidrofex_status(state: &[u64], answer: &mut [u64; ANSWER_WORDS]) -> u8
     ensures number { result ≡ number_told (status_in state.now) }
     ensures words { answer.new ≡ words_told where_words (status_in state.now) }
 {
@@ -188,12 +175,7 @@ pub extern "C" fn jidrofex_status(state: &[u64], answer: &mut [u64; ANSWER_WORDS
 }
 
 // The rehearsal of the plan that the text is.
-#[unsafe(no_mangle)]
-pub extern "C" fn jidrofex_rehearse(
-    text: &[u8],
-    rehearsal: &mut [u64],
-    answer: &mut [u64; ANSWER_WORDS],
-) -> u8
+pub fn jidrofex_rehearse(text: &[u8], rehearsal: &mut [u64], answer: &mut [u64; ANSWER_WORDS]) -> u8
     ensures number { result ≡ number_told (rehearse_told text.now rehearsal.old) }
     ensures words { answer.new ≡ words_told nothing (rehearse_told text.now rehearsal.old) }
     ensures left { rehearsal.new ≡ rehearse_words text.now rehearsal.old }
@@ -209,12 +191,7 @@ pub extern "C" fn jidrofex_rehearse(
 }
 
 // The state with the panel as it was read back and its seats begun anew, to go on from after a power cut.
-#[unsafe(no_mangle)]
-pub extern "C" fn jidrofex_resume(
-    state: &mut [u64],
-    panel: &[u8],
-    answer: &mut [u64; ANSWER_WORDS],
-) -> u8
+pub fn jidrofex_resume(state: &mut [u64], panel: &[u8], answer: &mut [u64; ANSWER_WORDS]) -> u8
     ensures number { result ≡ number_told (resume_told panel.now state.old) }
     ensures words { answer.new ≡ words_told nothing (resume_told panel.now state.old) }
     ensures left { state.new ≡ resume_words panel.now state.old }
@@ -235,8 +212,7 @@ pub extern "C" fn jidrofex_resume(
 }
 
 // As many whole lines as fit the buffer, every mark taken as run.
-#[unsafe(no_mangle)]
-pub extern "C" fn jidrofex_orders(
+pub fn jidrofex_orders(
     rehearsal: &mut [u64],
     buffer: &mut [u8],
     answer: &mut [u64; ANSWER_WORDS],

@@ -13,8 +13,7 @@ use dictionary::translation::{to_number, to_rank};
 use face_values::answers::{ANSWER_WORDS, give_numbered, give_outcome};
 
 // The dictionary number of a pattern.
-#[unsafe(no_mangle)]
-pub extern "C" fn jidrofex_dictionary_number(pattern: &[u8], answer: &mut [u64; ANSWER_WORDS]) -> u8
+pub fn jidrofex_dictionary_number(pattern: &[u8], answer: &mut [u64; ANSWER_WORDS]) -> u8
     ensures number { result ≡ number_told (dictionary_number_of most_ports pattern.now) }
     ensures words { answer.new ≡ words_told one_number (dictionary_number_of most_ports pattern.now) }
 {
@@ -22,8 +21,7 @@ pub extern "C" fn jidrofex_dictionary_number(pattern: &[u8], answer: &mut [u64; 
 }
 
 // The pattern of a dictionary number, written over the bytes of `pattern`.
-#[unsafe(no_mangle)]
-pub extern "C" fn jidrofex_dictionary_pattern(
+pub fn jidrofex_dictionary_pattern(
     number: u64,
     pattern: &mut [u8],
     answer: &mut [u64; ANSWER_WORDS],
@@ -36,11 +34,7 @@ pub extern "C" fn jidrofex_dictionary_pattern(
 }
 
 // The pattern becomes the next one in dictionary order.
-#[unsafe(no_mangle)]
-pub extern "C" fn jidrofex_dictionary_next(
-    pattern: &mut [u8],
-    answer: &mut [u64; ANSWER_WORDS],
-) -> u8
+pub fn jidrofex_dictionary_next(pattern: &mut [u8], answer: &mut [u64; ANSWER_WORDS]) -> u8
     ensures number { result ≡ number_told (dictionary_next_of most_ports pattern.old) }
     ensures words { answer.new ≡ words_told nothing (dictionary_next_of most_ports pattern.old) }
     ensures bytes { pattern.new ≡ dictionary_next_bytes most_ports pattern.old }
@@ -49,12 +43,7 @@ pub extern "C" fn jidrofex_dictionary_next(
 }
 
 // From a dictionary number to the rank of the same pattern.
-#[unsafe(no_mangle)]
-pub extern "C" fn jidrofex_number_to_rank(
-    ports: u8,
-    number: u64,
-    answer: &mut [u64; ANSWER_WORDS],
-) -> u8
+pub fn jidrofex_number_to_rank(ports: u8, number: u64, answer: &mut [u64; ANSWER_WORDS]) -> u8
     ensures number { result ≡ number_told (number_to_rank_of most_ports ports number) }
     ensures words { answer.new ≡ words_told one_number (number_to_rank_of most_ports ports number) }
 {
@@ -62,12 +51,7 @@ pub extern "C" fn jidrofex_number_to_rank(
 }
 
 // From a rank to the dictionary number of the same pattern.
-#[unsafe(no_mangle)]
-pub extern "C" fn jidrofex_rank_to_number(
-    ports: u8,
-    rank: u64,
-    answer: &mut [u64; ANSWER_WORDS],
-) -> u8
+pub fn jidrofex_rank_to_number(ports: u8, rank: u64, answer: &mut [u64; ANSWER_WORDS]) -> u8
     ensures number { result ≡ number_told (rank_to_number_of most_ports ports rank) }
     ensures words { answer.new ≡ words_told one_number (rank_to_number_of most_ports ports rank) }
 {

@@ -17,8 +17,7 @@ use line_writer::answers::bytes_number;
 use line_writer::order_lines::write_line;
 
 // A line written at the front of the buffer.
-#[unsafe(no_mangle)]
-pub extern "C" fn jidrofex_write_line(
+pub fn jidrofex_write_line(
     line: &[u64; LINE_WORDS],
     buffer: &mut [u8],
     answer: &mut [u64; ANSWER_WORDS],
@@ -31,12 +30,7 @@ pub extern "C" fn jidrofex_write_line(
 }
 
 // The line that starts at a place of the text.
-#[unsafe(no_mangle)]
-pub extern "C" fn jidrofex_read_line(
-    text: &[u8],
-    place: usize,
-    answer: &mut [u64; ANSWER_WORDS],
-) -> u8
+pub fn jidrofex_read_line(text: &[u8], place: usize, answer: &mut [u64; ANSWER_WORDS]) -> u8
     ensures number { result ≡ number_told (read_of largest64 most_ports text.now place) }
     ensures words { answer.new ≡ words_told line_and_place (read_of largest64 most_ports text.now place) }
 {

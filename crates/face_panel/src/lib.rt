@@ -37,8 +37,7 @@ fn jack_number(found: Found) -> Numbered
 }
 
 // The port at a jack.
-#[unsafe(no_mangle)]
-pub extern "C" fn jidrofex_port_at(panel: &[u8], jack: u8, answer: &mut [u64; ANSWER_WORDS]) -> u8
+pub fn jidrofex_port_at(panel: &[u8], jack: u8, answer: &mut [u64; ANSWER_WORDS]) -> u8
     ensures number { result ≡ number_told (port_of most_ports panel.now jack) }
     ensures words { answer.new ≡ words_told one_number (port_of most_ports panel.now jack) }
 {
@@ -46,8 +45,7 @@ pub extern "C" fn jidrofex_port_at(panel: &[u8], jack: u8, answer: &mut [u64; AN
 }
 
 // The jack that holds a port.
-#[unsafe(no_mangle)]
-pub extern "C" fn jidrofex_jack_of(panel: &[u8], port: u8, answer: &mut [u64; ANSWER_WORDS]) -> u8
+pub fn jidrofex_jack_of(panel: &[u8], port: u8, answer: &mut [u64; ANSWER_WORDS]) -> u8
     ensures number { result ≡ number_told (jack_of most_ports panel.now port) }
     ensures words { answer.new ≡ words_told one_number (jack_of most_ports panel.now port) }
 {
@@ -55,8 +53,7 @@ pub extern "C" fn jidrofex_jack_of(panel: &[u8], port: u8, answer: &mut [u64; AN
 }
 
 // A line carried out on the panel.
-#[unsafe(no_mangle)]
-pub extern "C" fn jidrofex_carry(
+pub fn jidrofex_carry(
     panel: &mut [u8],
     line: &[u64; LINE_WORDS],
     answer: &mut [u64; ANSWER_WORDS],

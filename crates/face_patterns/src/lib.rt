@@ -29,8 +29,7 @@ fn give_moved(moved: Moved, answer: &mut [u64; ANSWER_WORDS]) -> u8
 }
 
 // Whether it is a pattern.
-#[unsafe(no_mangle)]
-pub extern "C" fn jidrofex_check(pattern: &[u8], answer: &mut [u64; ANSWER_WORDS]) -> u8
+pub fn jidrofex_check(pattern: &[u8], answer: &mut [u64; ANSWER_WORDS]) -> u8
     ensures number { result ≡ number_told (check_as true most_ports pattern.now) }
     ensures words { answer.new ≡ words_told nothing (check_as true most_ports pattern.now) }
 {
@@ -38,8 +37,7 @@ pub extern "C" fn jidrofex_check(pattern: &[u8], answer: &mut [u64; ANSWER_WORDS
 }
 
 // Whether it is a panel.
-#[unsafe(no_mangle)]
-pub extern "C" fn jidrofex_check_panel(panel: &[u8], answer: &mut [u64; ANSWER_WORDS]) -> u8
+pub fn jidrofex_check_panel(panel: &[u8], answer: &mut [u64; ANSWER_WORDS]) -> u8
     ensures number { result ≡ number_told (check_as false most_ports panel.now) }
     ensures words { answer.new ≡ words_told nothing (check_as false most_ports panel.now) }
 {
@@ -47,8 +45,7 @@ pub extern "C" fn jidrofex_check_panel(panel: &[u8], answer: &mut [u64; ANSWER_W
 }
 
 // How many patterns there are.
-#[unsafe(no_mangle)]
-pub extern "C" fn jidrofex_count(ports: u8, answer: &mut [u64; ANSWER_WORDS]) -> u8
+pub fn jidrofex_count(ports: u8, answer: &mut [u64; ANSWER_WORDS]) -> u8
     ensures number { result ≡ number_told (count_of most_ports ports) }
     ensures words { answer.new ≡ words_told one_number (count_of most_ports ports) }
 {
@@ -56,8 +53,7 @@ pub extern "C" fn jidrofex_count(ports: u8, answer: &mut [u64; ANSWER_WORDS]) ->
 }
 
 // The rank of a pattern.
-#[unsafe(no_mangle)]
-pub extern "C" fn jidrofex_rank(pattern: &[u8], answer: &mut [u64; ANSWER_WORDS]) -> u8
+pub fn jidrofex_rank(pattern: &[u8], answer: &mut [u64; ANSWER_WORDS]) -> u8
     ensures number { result ≡ number_told (rank_of most_ports pattern.now) }
     ensures words { answer.new ≡ words_told one_number (rank_of most_ports pattern.now) }
 {
@@ -65,12 +61,7 @@ pub extern "C" fn jidrofex_rank(pattern: &[u8], answer: &mut [u64; ANSWER_WORDS]
 }
 
 // The pattern of a rank, written over the bytes of `pattern`.
-#[unsafe(no_mangle)]
-pub extern "C" fn jidrofex_unrank(
-    rank: u64,
-    pattern: &mut [u8],
-    answer: &mut [u64; ANSWER_WORDS],
-) -> u8
+pub fn jidrofex_unrank(rank: u64, pattern: &mut [u8], answer: &mut [u64; ANSWER_WORDS]) -> u8
     ensures number { result ≡ number_told (unrank_of most_ports rank pattern.old) }
     ensures words { answer.new ≡ words_told nothing (unrank_of most_ports rank pattern.old) }
     ensures bytes { pattern.new ≡ unrank_bytes most_ports rank pattern.old }
@@ -79,8 +70,7 @@ pub extern "C" fn jidrofex_unrank(
 }
 
 // The pattern becomes the next one round the circuit.
-#[unsafe(no_mangle)]
-pub extern "C" fn jidrofex_next(pattern: &mut [u8], answer: &mut [u64; ANSWER_WORDS]) -> u8
+pub fn jidrofex_next(pattern: &mut [u8], answer: &mut [u64; ANSWER_WORDS]) -> u8
     ensures number { result ≡ number_told (beside_of most_ports false pattern.old) }
     ensures words { answer.new ≡ words_told move_words (beside_of most_ports false pattern.old) }
     ensures bytes { pattern.new ≡ beside_bytes most_ports false pattern.old }
@@ -89,8 +79,7 @@ pub extern "C" fn jidrofex_next(pattern: &mut [u8], answer: &mut [u64; ANSWER_WO
 }
 
 // The pattern becomes the previous one round the circuit.
-#[unsafe(no_mangle)]
-pub extern "C" fn jidrofex_previous(pattern: &mut [u8], answer: &mut [u64; ANSWER_WORDS]) -> u8
+pub fn jidrofex_previous(pattern: &mut [u8], answer: &mut [u64; ANSWER_WORDS]) -> u8
     ensures number { result ≡ number_told (beside_of most_ports true pattern.old) }
     ensures words { answer.new ≡ words_told move_words (beside_of most_ports true pattern.old) }
     ensures bytes { pattern.new ≡ beside_bytes most_ports true pattern.old }
@@ -99,13 +88,7 @@ pub extern "C" fn jidrofex_previous(pattern: &mut [u8], answer: &mut [u64; ANSWE
 }
 
 // The rank k further round the circuit.
-#[unsafe(no_mangle)]
-pub extern "C" fn jidrofex_step(
-    ports: u8,
-    rank: u64,
-    k: i64,
-    answer: &mut [u64; ANSWER_WORDS],
-) -> u8
+pub fn jidrofex_step(ports: u8, rank: u64, k: i64, answer: &mut [u64; ANSWER_WORDS]) -> u8
     ensures number { result ≡ number_told (step_of most_ports ports rank k) }
     ensures words { answer.new ≡ words_told one_number (step_of most_ports ports rank k) }
 {

@@ -22,12 +22,7 @@ fn give_survey(survey: Survey, answer: &mut [u64; ANSWER_WORDS]) -> u8
 }
 
 // The ranks that a plan names, each once, and its gaps at the front of the slice.
-#[unsafe(no_mangle)]
-pub extern "C" fn jidrofex_named(
-    text: &[u8],
-    gaps: &mut [u64],
-    answer: &mut [u64; ANSWER_WORDS],
-) -> u8
+pub fn jidrofex_named(text: &[u8], gaps: &mut [u64], answer: &mut [u64; ANSWER_WORDS]) -> u8
     ensures number { result ≡ number_told (named_of text.now gaps.old) }
     ensures words { answer.new ≡ words_told names_words (named_of text.now gaps.old) }
     ensures left { gaps.new ≡ named_numbers text.now gaps.old }

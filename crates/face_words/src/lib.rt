@@ -15,8 +15,7 @@ use line_writer::answers::bytes_number;
 const VERSION: u64 = 5;
 
 // The version of the library.
-#[unsafe(no_mangle)]
-pub extern "C" fn jidrofex_version(answer: &mut [u64; ANSWER_WORDS]) -> u8
+pub fn jidrofex_version(answer: &mut [u64; ANSWER_WORDS]) -> u8
     ensures number { result ≡ number_told version_told }
     ensures words { answer.new ≡ words_told one_number version_told }
 {
@@ -24,12 +23,7 @@ pub extern "C" fn jidrofex_version(answer: &mut [u64; ANSWER_WORDS]) -> u8
 }
 
 // The words of a refusal, by its number, at the front of the buffer.
-#[unsafe(no_mangle)]
-pub extern "C" fn jidrofex_refusal_words(
-    number: u8,
-    buffer: &mut [u8],
-    answer: &mut [u64; ANSWER_WORDS],
-) -> u8
+pub fn jidrofex_refusal_words(number: u8, buffer: &mut [u8], answer: &mut [u64; ANSWER_WORDS]) -> u8
     ensures number { result ≡ number_told (refusal_words_of number buffer.old) }
     ensures words { answer.new ≡ words_told one_number (refusal_words_of number buffer.old) }
     ensures bytes { buffer.new ≡ refusal_words_bytes number buffer.old }
@@ -38,8 +32,7 @@ pub extern "C" fn jidrofex_refusal_words(
 }
 
 // A refusal as a sentence, from its number and the first two words of its answer, at the front of the buffer.
-#[unsafe(no_mangle)]
-pub extern "C" fn jidrofex_refusal_sentence(
+pub fn jidrofex_refusal_sentence(
     number: u8,
     refused: &[u64; ANSWER_WORDS],
     buffer: &mut [u8],
