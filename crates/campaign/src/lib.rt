@@ -1,5 +1,6 @@
 // The campaign: it hands out orders and takes reports, and keeps the count of what was covered. Its state goes into each call and the new one comes back.
 #![tactic(auto)]
+
 pub mod beginning;
 pub mod reports;
 pub mod requests;

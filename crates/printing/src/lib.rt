@@ -1,6 +1,7 @@
 // Order lines in bulk: as many whole lines as fit a lent buffer, every mark taken as run. A rehearsal of a plan, not a campaign: what goes on from buffer to
 // buffer is no state of a campaign and carries no count.
 #![tactic(auto)]
+
 pub mod rehearsals;
 
 ghost use Rattle.std.specs.Prelude.{◌≡◌, ◌++◌, ◌-◌, ◌≤◌, length, take, drop};

@@ -1,0 +1,22 @@
+-- `campaign::requests::after_seat`: the jack after this one is the next to seat, none after the last.
+use mathlib.Core.Path.{sym, ◌∙◌}
+use Prim.Native.Nat.{suc}
+use native.Mathlib.Numerals.{add-one}
+use native.Mathlib.Omega.{arith}
+use Rattle.listing.proofs.Numbers.{is_same, is-other}
+use Rattle.words.specs.declared.Line.TheVariants.{Seat}
+use Rattle.words.proofs.Shape.{passes-fits}
+use Rattle.campaign.proofs.Tells.{line-leaves-seat}
+use Rattle.campaign.proofs.requests.after_seat.Goals as goal
+
+pub returns-then-j-plan : goal.returns-then-j-plan
+returns-then-j-plan c =
+    line-leaves-seat c.args.j c.args.s 0 (sym (is_same c.args.j.0 c.args.s.plan.ports 0 (suc c.args.j.0) c.if-j-plan.true))
+
+pub overflow_add-next : goal.overflow_add-next
+overflow_add-next c =
+    omega (arith, c.requires.0, (passes-fits c.args.s.plan.ports (Seat c.args.j) c.requires.1).1)
+
+pub returns : goal.returns
+returns c =
+    line-leaves-seat c.args.j c.args.s _ (add-one c.args.j.0 ∙ sym (is-other c.args.j.0 c.args.s.plan.ports 0 (suc c.args.j.0) c.if-j-plan.false))
