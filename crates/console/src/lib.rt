@@ -3,12 +3,11 @@
 #![tactic(auto)]
 
 ghost use Rattle.std.specs.Prelude.{◌≡◌, ◌+◌, ◌≤◌, length, take};
-ghost use Rattle.io.specs.Counts.{IsPrefixLen};
 
 use line_refusal::refusal_text;
 use std::fs;
 use std::fs::{File, OpenOptions};
-use std::io::{Read, Write};
+use std::io::{ErrorKind, Read, Write};
 use std::os::unix::fs::PermissionsExt;
 use std::rt::{Stderr, Stdin, Stdout};
 use words::refusals::{earlier_number, place_number, reason_number};
@@ -62,7 +61,8 @@ pub fn open_streams(rt: &HostRuntime) -> Streams {
 
 // Standard input into a buffer, until either is at its end or reading fails. How many bytes it put at the front.
 fn read_rest(streams: &mut Streams, text: &mut [u8]) -> usize
-    ensures { IsPrefixLen result text.new }
+    ensures fits { result ≤ length text.new }
+    ensures front { result ≡ length (take result text.new) }
 {
     let mut done: usize = 0;
     while done < text.len() {
@@ -83,7 +83,8 @@ fn read_rest(streams: &mut Streams, text: &mut [u8]) -> usize
 
 // Standard input into the front of a buffer, until either is at its end.
 pub fn read_input(streams: &mut Streams, text: &mut [u8]) -> Input
-    ensures { IsPrefixLen result.len text.new }
+    ensures fits { result.len ≤ length text.new }
+    ensures front { result.len ≡ length (take result.len text.new) }
 {
     match streams.input.read(text) {
         Err(_) => Input {
@@ -147,15 +148,24 @@ pub fn unreadable(streams: &mut Streams, name: &[u8], what: &[u8]) {
     complain(streams, b" could not be read\n");
 }
 
+// The outcome where the output could not be written. Where that is because the reader of a pipe went away, nobody is told in words, as other filters do.
+fn unwritable(streams: &mut Streams, name: &[u8], why: ErrorKind) {
+    tell(streams, b"unwritable\n");
+    if why != ErrorKind::BrokenPipe {
+        complain(streams, name);
+        complain(streams, b": the output could not be written\n");
+    }
+}
+
 // Bytes written to standard output; where they cannot be, that is the outcome.
 pub fn written(streams: &mut Streams, name: &[u8], bytes: &[u8]) -> bool {
-    if streams.output.write_all(bytes).is_ok() {
-        return true;
+    match streams.output.write_all(bytes) {
+        Ok(()) => true,
+        Err(why) => {
+            unwritable(streams, name, why.kind());
+            false
+        }
     }
-    tell(streams, b"unwritable\n");
-    complain(streams, name);
-    complain(streams, b": the output could not be written\n");
-    false
 }
 
 // The outcome where all was written.

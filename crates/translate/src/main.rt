@@ -2,8 +2,7 @@
 // for. The first line that is refused ends it: its refusal is printed with the line's number, and the command is told the line as well.
 #![tactic(auto)]
 
-ghost use Rattle.std.specs.Prelude.{◌+◌, ◌≤◌, ◌<◌, length};
-ghost use Rattle.io.specs.Counts.{IsPrefixLen};
+ghost use Rattle.std.specs.Prelude.{◌+◌, ◌≤◌, ◌<◌, ◌≡◌, length, take};
 ghost use Rattle.listing.specs.Limits.{largest64};
 ghost use Rattle.translating.specs.Lines.{most_line, SoFar};
 ghost use Rattle.translate.specs.Turns.{HoldsIs, TurnIs};
@@ -67,7 +66,9 @@ fn at_most_line(n: usize) -> usize
 
 // How many bytes are told of the line that a text begins with: none after its newline, and no more than a good line has.
 fn shown(left: &[u8]) -> usize
-    ensures { IsPrefixLen result left.now × (result ≤ most_line) }
+    ensures fits { result ≤ length left.now }
+    ensures front { result ≡ length (take result left.now) }
+    ensures shown { result ≤ most_line }
 {
     match find(left, b'\n') {
         Found::At(k) => at_most_line(k),
