@@ -8,15 +8,15 @@ use printing::{Filled, fill, rehearse};
 use words::{Line, Numbered, Outcome};
 
 // A mark: the rank of what stands on the panel beside the line's.
-fn met(panel: &[u8], number: u64, wanted: u64) -> bool {
-    says::text(b"example: mark ");
-    says::number(number);
-    says::text(b" of rank ");
-    says::number(wanted);
-    says::text(b" meets rank ");
+fn met(rt: &impl Print, panel: &[u8], number: u64, wanted: u64) -> bool {
+    says::text(rt, b"example: mark ");
+    says::number(rt, number);
+    says::text(rt, b" of rank ");
+    says::number(rt, wanted);
+    says::text(rt, b" meets rank ");
     match rank(panel) {
         Numbered::Is(k) => {
-            says::number(k);
+            says::number(rt, k);
             k == wanted
         }
         Numbered::Refused(_) => false,
@@ -31,36 +31,36 @@ fn carried(panel: &mut [u8], line: Line) -> bool {
 }
 
 // A line obeyed.
-fn obey(panel: &mut [u8], line: Line) {
+fn obey(rt: &impl Print, panel: &mut [u8], line: Line) {
     let good = carried(panel, line);
     match line {
         Line::Movement(_) => {
-            says::text(b"example: an order leaves ");
-            says::pattern(panel);
-            says::end(good);
+            says::text(rt, b"example: an order leaves ");
+            says::pattern(rt, panel);
+            says::end(rt, good);
         }
         Line::Seat(_) => {
-            says::text(b"example: a seat, with no error before it");
-            says::end(false);
+            says::text(rt, b"example: a seat, with no error before it");
+            says::end(rt, false);
         }
         Line::Mark(number, wanted) => {
-            let meets = met(panel, number, wanted);
-            says::end(good && meets);
+            let meets = met(rt, panel, number, wanted);
+            says::end(rt, good && meets);
         }
-        Line::End(marks) => says::counted(b"example: marks at the end", marks, MARKS),
+        Line::End(marks) => says::counted(rt, b"example: marks at the end", marks, MARKS),
     }
 }
 
 // The line at a place, and the place after it.
-fn read_one(text: &[u8], place: usize, panel: &mut [u8]) -> usize {
+fn read_one(rt: &impl Print, text: &[u8], place: usize, panel: &mut [u8]) -> usize {
     match read_line(text, place) {
         ReadLine::Read(line, after) => {
-            obey(panel, line);
+            obey(rt, panel, line);
             after
         }
         ReadLine::Refused(_) => {
-            says::text(b"example: no line");
-            says::end(false);
+            says::text(rt, b"example: no line");
+            says::end(rt, false);
             place
         }
     }
@@ -73,33 +73,36 @@ const BYTES: u64 = 98;
 
 const MARKS: u64 = 5;
 
+// The bytes of the buffer that it is printed into.
+const BUFFER: usize = 4096;
+
 // All lines, on a panel.
-fn read_all(text: &[u8], panel: &mut [u8]) {
+fn read_all(rt: &impl Print, text: &[u8], panel: &mut [u8]) {
     let mut place: usize = 0;
     let mut lines: u8 = 0;
     while lines < LINES {
-        place = read_one(text, place, panel);
+        place = read_one(rt, text, place, panel);
         lines += 1;
     }
-    says::counted(b"example: bytes read", place as u64, text.len() as u64);
+    says::counted(rt, b"example: bytes read", place as u64, text.len() as u64);
 }
 
-pub fn printed_and_read() {
+pub fn printed_and_read(rt: &impl Print) {
     let rehearsed = rehearse(b"ports=4\nlegs=2\nstart=0\nrun=2\nstart=8\nrun=-1\n");
     let rehearsal = rehearsed.rehearsal;
-    let mut buf = io::buffer();
+    let mut buf = [0u8; BUFFER];
     let printed = fill(rehearsal, &mut buf);
     let filled = printed.filled;
     match filled {
         Filled::Ended(n) => {
-            says::counted(b"example: bytes printed", n as u64, BYTES);
+            says::counted(rt, b"example: bytes printed", n as u64, BYTES);
             let mut panel = [2u8, 3, 4, 1];
-            read_all(&buf[..n], &mut panel);
+            read_all(rt, &buf[..n], &mut panel);
         }
         Filled::Lines(_) => {
-            says::text(b"example: printed without its end");
-            says::end(false);
+            says::text(rt, b"example: printed without its end");
+            says::end(rt, false);
         }
-        Filled::Refused(f) => says::answered(b"example: printed", says::refused(f), 0, 0),
+        Filled::Refused(f) => says::answered(rt, b"example: printed", says::refused(f), 0, 0),
     }
 }

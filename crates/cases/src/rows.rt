@@ -1,6 +1,5 @@
 // Every row of a table: the pattern of its rank, the rank of its pattern, and the rows after and before it round the circuit.
 use crate::says;
-use check::same;
 use patterns::neighbours::{next, previous};
 use patterns::ranking::{rank, unrank};
 use words::Numbered;
@@ -37,48 +36,48 @@ fn load(r: &[u8], p: &mut [u8]) {
 }
 
 // What a call left, and whether it is the row.
-fn left(what: &[u8], p: &[u8], r: &[u8]) -> bool {
-    says::text(what);
-    says::pattern(p);
-    same(p, r)
+fn left(rt: &impl Print, what: &[u8], p: &[u8], r: &[u8]) -> bool {
+    says::text(rt, what);
+    says::pattern(rt, p);
+    &*p == r
 }
 
-fn by_rank(place: u64, r: &[u8]) -> bool {
-    says::text(b", rank ");
+fn by_rank(rt: &impl Print, place: u64, r: &[u8]) -> bool {
+    says::text(rt, b", rank ");
     match rank(r) {
         Numbered::Is(k) => {
-            says::number(k);
+            says::number(rt, k);
             k == place
         }
         Numbered::Refused(_) => false,
     }
 }
 
-fn by_unrank(place: u64, p: &mut [u8], r: &[u8]) -> bool {
+fn by_unrank(rt: &impl Print, place: u64, p: &mut [u8], r: &[u8]) -> bool {
     unrank(place, p);
-    left(b", unrank ", p, r)
+    left(rt, b", unrank ", p, r)
 }
 
-fn by_next(p: &mut [u8], r: &[u8], after: &[u8]) -> bool {
+fn by_next(rt: &impl Print, p: &mut [u8], r: &[u8], after: &[u8]) -> bool {
     load(r, p);
     next(p);
-    left(b", next ", p, after)
+    left(rt, b", next ", p, after)
 }
 
-fn by_previous(p: &mut [u8], r: &[u8], before: &[u8]) -> bool {
+fn by_previous(rt: &impl Print, p: &mut [u8], r: &[u8], before: &[u8]) -> bool {
     load(r, p);
     previous(p);
-    left(b", previous ", p, before)
+    left(rt, b", previous ", p, before)
 }
 
 // One row, with a pattern to work on.
-fn one_row(place: u64, p: &mut [u8], r: &[u8], after: &[u8], before: &[u8]) {
-    says::pattern(r);
-    let unranked = by_unrank(place, p, r);
-    let ranked = by_rank(place, r);
-    let forward = by_next(p, r, after);
-    let backward = by_previous(p, r, before);
-    says::end(unranked && ranked && forward && backward);
+fn one_row(rt: &impl Print, place: u64, p: &mut [u8], r: &[u8], after: &[u8], before: &[u8]) {
+    says::pattern(rt, r);
+    let unranked = by_unrank(rt, place, p, r);
+    let ranked = by_rank(rt, place, r);
+    let forward = by_next(rt, p, r, after);
+    let backward = by_previous(rt, p, r, before);
+    says::end(rt, unranked && ranked && forward && backward);
 }
 
 // The number of the row after one, and before one, round the circuit.
@@ -102,11 +101,12 @@ fn before_row(i: usize, rows: usize) -> usize {
 }
 
 // All rows, of as many bytes as the pattern to work on.
-pub fn all_rows(table: &[u8], p: &mut [u8], rows: usize) {
+pub fn all_rows(rt: &impl Print, table: &[u8], p: &mut [u8], rows: usize) {
     let n = p.len();
     let mut i: usize = 0;
     while i < rows {
         one_row(
+            rt,
             i as u64,
             p,
             row(table, n, i),

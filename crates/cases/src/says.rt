@@ -25,54 +25,63 @@ pub fn refused(f: Refusal) -> Told {
     }
 }
 
-pub fn text(bytes: &[u8]) {
-    io::write_all(1, bytes);
+pub fn text(rt: &impl Print, bytes: &[u8]) {
+    let _ = rt.write_all(bytes);
 }
 
-pub fn number(n: u64) {
-    io::print_decimal(1, n);
+pub fn number(rt: &impl Print, n: u64) {
+    let _ = rt.print(n);
 }
 
 // The end of a line: nothing more where all is as expected.
-pub fn end(good: bool) {
+pub fn end(rt: &impl Print, good: bool) {
     if good {
-        text(b"\n");
+        text(rt, b"\n");
     } else {
-        text(b" DIFFERS\n");
+        text(rt, b" DIFFERS\n");
     }
 }
 
-fn port(v: u8) {
-    number(v as u64);
+fn port(rt: &impl Print, v: u8) {
+    number(rt, v as u64);
 }
 
 // The ports of a pattern, one after the other.
-pub fn pattern(p: &[u8]) {
+pub fn pattern(rt: &impl Print, p: &[u8]) {
     let mut j: usize = 0;
     while j < p.len() {
-        port(p[j]);
+        port(rt, p[j]);
         j += 1;
     }
 }
 
 // What a call told, beside what was expected.
-pub fn answered(what: &[u8], found: Told, number_expected: u8, place_expected: u8) {
-    text(what);
+pub fn answered(
+    rt: &impl Print,
+    what: &[u8],
+    found: Told,
+    number_expected: u8,
+    place_expected: u8,
+) {
+    text(rt, what);
     if found.number == 0 {
-        text(b": accepted");
+        text(rt, b": accepted");
     } else {
-        text(b": refused ");
-        number(found.number as u64);
-        text(b" at ");
-        number(found.place as u64);
+        text(rt, b": refused ");
+        number(rt, found.number as u64);
+        text(rt, b" at ");
+        number(rt, found.place as u64);
     }
-    end(found.number == number_expected && found.place == place_expected);
+    end(
+        rt,
+        found.number == number_expected && found.place == place_expected,
+    );
 }
 
 // A number found, beside the one expected.
-pub fn counted(what: &[u8], found: u64, expected: u64) {
-    text(what);
-    text(b": ");
-    number(found);
-    end(found == expected);
+pub fn counted(rt: &impl Print, what: &[u8], found: u64, expected: u64) {
+    text(rt, what);
+    text(rt, b": ");
+    number(rt, found);
+    end(rt, found == expected);
 }

@@ -1,9 +1,11 @@
 // Whole circuits walked from the first pattern, forward and backward: every pattern comes once, and the walk ends where it began.
 use crate::says;
-use check::same;
 use patterns::neighbours::{next, previous};
 use patterns::ranking::unrank;
 use words::limits::LARGEST;
+
+// How many spots a walk remembers: more than there are.
+const SPOTS: usize = 65536;
 
 // The entry at a place of a pattern of up to 6 ports; 0 beyond it.
 fn entry(p: &[u8], j: usize) -> usize {
@@ -65,27 +67,27 @@ fn different(p: &mut [u8], back: bool, steps: u64, seen: &mut [u8]) -> u64 {
     found
 }
 
-fn walk(what: &[u8], p: &mut [u8], first: &[u8], back: bool, patterns: u64) {
-    let mut seen = io::large_buffer();
+fn walk(rt: &impl Print, what: &[u8], p: &mut [u8], first: &[u8], back: bool, patterns: u64) {
+    let mut seen = [0u8; SPOTS];
     let found = different(p, back, patterns, &mut seen);
-    let home = same(p, first);
-    says::number(first.len() as u64);
-    says::text(what);
-    says::number(found);
-    says::text(b" different patterns in ");
-    says::number(patterns);
+    let home = &*p == first;
+    says::number(rt, first.len() as u64);
+    says::text(rt, what);
+    says::number(rt, found);
+    says::text(rt, b" different patterns in ");
+    says::number(rt, patterns);
     if home {
-        says::text(b" steps, then the first again");
+        says::text(rt, b" steps, then the first again");
     } else {
-        says::text(b" steps, then another than the first");
+        says::text(rt, b" steps, then another than the first");
     }
-    says::end(home && found == patterns);
+    says::end(rt, home && found == patterns);
 }
 
 // Both ways, with two patterns of as many ports to work on.
-pub fn circuit(p: &mut [u8], first: &mut [u8], patterns: u64) {
+pub fn circuit(rt: &impl Print, p: &mut [u8], first: &mut [u8], patterns: u64) {
     unrank(0, first);
     unrank(0, p);
-    walk(b" ports forward: ", p, first, false, patterns);
-    walk(b" ports backward: ", p, first, true, patterns);
+    walk(rt, b" ports forward: ", p, first, false, patterns);
+    walk(rt, b" ports backward: ", p, first, true, patterns);
 }

@@ -3,14 +3,27 @@
 #![tactic(auto)]
 
 ghost use Rattle.std.specs.Prelude.{◌≡◌, ◌+◌, ◌≤◌, length, take};
-ghost use Rattle.io.specs.Counts.{IsPrefixLen};
 
 use line_refusal::refusal_text;
+use std::fs;
+use std::fs::{File, OpenOptions};
+use std::io::{ErrorKind, Read, Write};
+use std::os::unix::fs::PermissionsExt;
+use std::rt::{Stderr, Stdin, Stdout};
 use words::refusals::{earlier_number, place_number, reason_number};
 use words::{Place, Reason, Refusal};
 
-// The descriptor on which a program tells its outcome.
-const TOLD: i32 = 3;
+// The descriptor on which a program tells its outcome, by its name among files.
+const TOLD: &str = "/dev/fd/3";
+
+// What a program reads and writes: the standard streams, and the descriptor on which it tells, where that is open.
+#[derive(Drop)]
+pub struct Streams {
+    input: Stdin,
+    output: Stdout,
+    errors: Stderr,
+    told: Option<File>,
+}
 
 // What was read: so many bytes, unless reading failed.
 #[derive(Clone, Copy)]
@@ -19,118 +32,184 @@ pub struct Input {
     pub len: usize,
 }
 
-// Standard input into the front of a buffer, until either is at its end.
-pub fn read_input(text: &mut [u8]) -> Input
-    ensures { IsPrefixLen result.len text.new }
+// Whether the descriptor on which a program tells is open for writing: its link's mode says how it was opened.
+fn is_told(rt: &HostRuntime) -> bool {
+    match fs::symlink_metadata(rt, TOLD) {
+        Ok(link) => link.permissions().mode() & 0o200 != 0,
+        Err(_) => false,
+    }
+}
+
+// That descriptor opened once more, under a number that no standard stream has, even one that is closed.
+fn open_told(rt: &HostRuntime) -> Option<File> {
+    if is_told(rt) {
+        let told = OpenOptions::new().append(true).open(rt, TOLD).ok()?;
+        return told.try_clone().ok();
+    }
+    None
+}
+
+// What the program of this runtime reads and writes.
+pub fn open_streams(rt: &HostRuntime) -> Streams {
+    Streams {
+        input: rt.stdin(),
+        output: rt.stdout(),
+        errors: rt.stderr(),
+        told: open_told(rt),
+    }
+}
+
+// Standard input into a buffer, until either is at its end or reading fails. How many bytes it put at the front.
+fn read_rest(streams: &mut Streams, text: &mut [u8]) -> usize
+    ensures fits { result ≤ length text.new }
+    ensures front { result ≡ length (take result text.new) }
 {
-    let got = libc::read(0, text);
-    if got < 0 {
-        return Input {
+    let mut done: usize = 0;
+    while done < text.len() {
+        match streams.input.read(&mut text[done..]) {
+            Err(_) => {
+                return done;
+            }
+            Ok(n) => {
+                if n == 0 {
+                    return done;
+                }
+                done += n;
+            }
+        }
+    }
+    done
+}
+
+// Standard input into the front of a buffer, until either is at its end.
+pub fn read_input(streams: &mut Streams, text: &mut [u8]) -> Input
+    ensures fits { result.len ≤ length text.new }
+    ensures front { result.len ≡ length (take result.len text.new) }
+{
+    match streams.input.read(text) {
+        Err(_) => Input {
             failed: true,
             len: 0,
-        };
-    }
-    let first = io::count(got, text);
-    let rest = io::read_full(0, &mut text[first..]);
-    Input {
-        failed: false,
-        len: first + rest,
+        },
+        Ok(first) => {
+            let rest = read_rest(streams, &mut text[first..]);
+            Input {
+                failed: false,
+                len: first + rest,
+            }
+        }
     }
 }
 
 // Standard input read once, into a buffer from a place on. No bytes where it is at its end.
-pub fn read_more(text: &mut [u8], from: usize) -> Input
+pub fn read_more(streams: &mut Streams, text: &mut [u8], from: usize) -> Input
     requires { from ≤ length text.old }
     ensures fits { from + result.len ≤ length text.old }
     ensures keeps { take from text.new ≡ take from text.old }
 {
-    let got = libc::read(0, &mut text[from..]);
-    if got < 0 {
-        return Input {
+    match streams.input.read(&mut text[from..]) {
+        Err(_) => Input {
             failed: true,
             len: 0,
-        };
-    }
-    Input {
-        failed: false,
-        len: io::count(got, &text[from..]),
+        },
+        Ok(n) => Input {
+            failed: false,
+            len: n,
+        },
     }
 }
 
 // Bytes told to the command. Where nobody listens they are lost, and nothing else changes.
-pub fn tell(bytes: &[u8]) {
-    io::write_all(TOLD, bytes);
+pub fn tell(streams: &mut Streams, bytes: &[u8]) {
+    if let Some(told) = &mut streams.told {
+        let _ = told.write_all(bytes);
+    }
 }
 
 // A key and a number told to the command, on a line of their own.
-pub fn tell_number(key: &[u8], n: u64) {
-    tell(key);
-    io::print_decimal(TOLD, n);
-    tell(b"\n");
+pub fn tell_number(streams: &mut Streams, key: &[u8], n: u64) {
+    tell(streams, key);
+    if let Some(told) = &mut streams.told {
+        let _ = writeln!(told, "{n}");
+    }
+}
+
+// Bytes written to standard error. Where they cannot be they are lost.
+fn complain(streams: &mut Streams, bytes: &[u8]) {
+    let _ = streams.errors.write_all(bytes);
 }
 
 // The outcome where the input could not be read: `name` is the command's, `what` is what it reads.
-pub fn unreadable(name: &[u8], what: &[u8]) {
-    tell(b"unreadable\n");
-    io::write_all(2, name);
-    io::write_all(2, b": the ");
-    io::write_all(2, what);
-    io::write_all(2, b" could not be read\n");
+pub fn unreadable(streams: &mut Streams, name: &[u8], what: &[u8]) {
+    tell(streams, b"unreadable\n");
+    complain(streams, name);
+    complain(streams, b": the ");
+    complain(streams, what);
+    complain(streams, b" could not be read\n");
+}
+
+// The outcome where the output could not be written. Where that is because the reader of a pipe went away, nobody is told in words, as other filters do.
+fn unwritable(streams: &mut Streams, name: &[u8], why: ErrorKind) {
+    tell(streams, b"unwritable\n");
+    if why != ErrorKind::BrokenPipe {
+        complain(streams, name);
+        complain(streams, b": the output could not be written\n");
+    }
 }
 
 // Bytes written to standard output; where they cannot be, that is the outcome.
-pub fn written(name: &[u8], bytes: &[u8]) -> bool {
-    if io::write_all(1, bytes) {
-        return true;
+pub fn written(streams: &mut Streams, name: &[u8], bytes: &[u8]) -> bool {
+    match streams.output.write_all(bytes) {
+        Ok(()) => true,
+        Err(why) => {
+            unwritable(streams, name, why.kind());
+            false
+        }
     }
-    tell(b"unwritable\n");
-    io::write_all(2, name);
-    io::write_all(2, b": the output could not be written\n");
-    false
 }
 
 // The outcome where all was written.
-pub fn printed() {
-    tell(b"printed\n");
+pub fn printed(streams: &mut Streams) {
+    tell(streams, b"printed\n");
 }
 
 // The second number of a refusal, told to the command.
-pub fn tell_earlier(place: Place) {
-    tell_number(b"earlier=", earlier_number(place) as u64);
+pub fn tell_earlier(streams: &mut Streams, place: Place) {
+    tell_number(streams, b"earlier=", earlier_number(place) as u64);
 }
 
 // A refusal told to the command: its number and its place.
-fn tell_refused(reason: Reason, place: u64) {
-    tell_number(b"refused=", reason_number(reason) as u64);
-    tell_number(b"at=", place);
+fn tell_refused(streams: &mut Streams, reason: Reason, place: u64) {
+    tell_number(streams, b"refused=", reason_number(reason) as u64);
+    tell_number(streams, b"at=", place);
 }
 
 // The same at its own place, with its second number.
-pub fn tell_refusal(f: Refusal) {
+pub fn tell_refusal(streams: &mut Streams, f: Refusal) {
     let reason = f.reason;
     let place = f.place;
-    tell_refused(reason, place_number(place) as u64);
-    tell_earlier(place);
+    tell_refused(streams, reason, place_number(place) as u64);
+    tell_earlier(streams, place);
 }
 
 // A refusal's two lines, with its place, on standard output and as the outcome; whether they could be written.
-pub fn refused_at(name: &[u8], reason: Reason, place: u64) -> bool {
+pub fn refused_at(streams: &mut Streams, name: &[u8], reason: Reason, place: u64) -> bool {
     let text = refusal_text(reason, place);
     let bytes = text.bytes;
     let n = text.len;
     let lines = &bytes[..n];
-    if written(name, lines) {
-        tell_refused(reason, place);
+    if written(streams, name, lines) {
+        tell_refused(streams, reason, place);
         return true;
     }
     false
 }
 
 // A refusal at its own place, with its second number.
-pub fn refused(name: &[u8], f: Refusal) {
+pub fn refused(streams: &mut Streams, name: &[u8], f: Refusal) {
     let reason = f.reason;
     let place = f.place;
-    if refused_at(name, reason, place_number(place) as u64) {
-        tell_earlier(place);
+    if refused_at(streams, name, reason, place_number(place) as u64) {
+        tell_earlier(streams, place);
     }
 }

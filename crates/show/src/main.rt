@@ -12,7 +12,7 @@ ghost use Rattle.plan_rules.specs.Rules.{legs_of, plan_ruled};
 use asking::ask;
 use campaign::{Answer, Campaign, RAN};
 use campaign_way::along::rank_along;
-use console::{printed, read_input, refused, unreadable, written};
+use console::{Streams, open_streams, printed, read_input, refused, unreadable, written};
 use line_writer::answers::Written;
 use line_writer::order_lines::{LONGEST_LINE, Spelled, write_line};
 use naming::{NAMED_BYTES, named_text};
@@ -49,57 +49,57 @@ struct Went {
 }
 
 // Bytes written to standard output.
-fn put(bytes: &[u8]) -> bool {
-    written(b"show", bytes)
+fn put(streams: &mut Streams, bytes: &[u8]) -> bool {
+    written(streams, b"show", bytes)
 }
 
 // A line that was spelled.
-fn put_spelled(s: Spelled) -> bool
+fn put_spelled(streams: &mut Streams, s: Spelled) -> bool
     requires { s.len ≤ length s.bytes }
 {
     let n = s.len;
     let bytes = s.bytes;
-    put(&bytes[..n])
+    put(streams, &bytes[..n])
 }
 
 // A number after its key.
-fn put_number(key: &[u8], n: u64) -> bool
+fn put_number(streams: &mut Streams, key: &[u8], n: u64) -> bool
     requires { length key.now ≤ 8 }
 {
-    put_spelled(number_line(key, n))
+    put_spelled(streams, number_line(key, n))
 }
 
 // An order line.
-fn put_line(line: Line) -> bool {
+fn put_line(streams: &mut Streams, line: Line) -> bool {
     let mut buf = [0u8; LONGEST_LINE];
     match write_line(line, &mut buf) {
         Written::Refused(_) => false,
-        Written::Bytes(n) => put(&buf[..n]),
+        Written::Bytes(n) => put(streams, &buf[..n]),
     }
 }
 
 // The ports, and how many patterns they have.
-fn put_ports(ports: u8) -> bool
+fn put_ports(streams: &mut Streams, ports: u8) -> bool
     requires { (2 ≤ ports) × (ports ≤ most_ports) }
 {
-    if put_number(b"ports=", ports as u64) {
-        return put_number(b"count=", count_of(ports));
+    if put_number(streams, b"ports=", ports as u64) {
+        return put_number(streams, b"count=", count_of(ports));
     }
     false
 }
 
 // The cord at a jack.
-fn put_cord(j: Jack, p: Port) -> bool {
-    put_spelled(cord_line(j, p))
+fn put_cord(streams: &mut Streams, j: Jack, p: Port) -> bool {
+    put_spelled(streams, cord_line(j, p))
 }
 
 // The cords of a panel, jack by jack.
-fn put_cords(ports: u8, panel: [u8; LONGEST]) -> bool
+fn put_cords(streams: &mut Streams, ports: u8, panel: [u8; LONGEST]) -> bool
     requires { ports ≤ most_ports }
 {
     let mut j: u8 = 0;
     while j < ports {
-        if put_cord(Jack(j + 1), Port(port_at(panel, ports, j + 1))) {
+        if put_cord(streams, Jack(j + 1), Port(port_at(panel, ports, j + 1))) {
             j += 1;
         } else {
             return false;
@@ -109,13 +109,13 @@ fn put_cords(ports: u8, panel: [u8; LONGEST]) -> bool
 }
 
 // One request, its line written; a mark is reported as run.
-fn put_next(c: Campaign) -> Went {
+fn put_next(streams: &mut Streams, c: Campaign) -> Went {
     let mut buf = [0u8; LONGEST_LINE];
     let asked = c.request(&mut buf);
     let answer = asked.answer;
     let next = asked.campaign;
     let n = asked.written;
-    if put(&buf[..n]) {
+    if put(streams, &buf[..n]) {
         return match answer {
             Answer::Movement(_) => Went {
                 campaign: next,
@@ -150,12 +150,12 @@ fn put_next(c: Campaign) -> Went {
 }
 
 // The lines from a mark to the next one's, or to the end's.
-fn put_orders(r: Rehearsal) -> bool {
+fn put_orders(streams: &mut Streams, r: Rehearsal) -> bool {
     let mut campaign = Campaign { state: state_of(r) };
     let mut first = true;
     let mut left = MOST_REQUESTS;
     while 0 < left {
-        let went = put_next(campaign);
+        let went = put_next(streams, campaign);
         let given = went.given;
         let next = went.campaign;
         match given {
@@ -184,56 +184,56 @@ fn put_orders(r: Rehearsal) -> bool {
 }
 
 // The facts of a mark.
-fn put_mark(plan: Plan, k: u64) -> bool
+fn put_mark(streams: &mut Streams, plan: Plan, k: u64) -> bool
     requires { (plan_ruled device plan ≡ true) × (k < marks (legs_of plan)) }
 {
     let r = rehearsal_at(plan, k);
-    if put_ports(plan.ports) {
+    if put_ports(streams, plan.ports) {
         let panel = r.panel;
-        if put_cords(plan.ports, panel) {
-            return put_orders(r);
+        if put_cords(streams, plan.ports, panel) {
+            return put_orders(streams, r);
         }
     }
     false
 }
 
 // The first mark of a leg and its last.
-fn put_ends(plan: Plan, i: u8) -> bool
+fn put_ends(streams: &mut Streams, plan: Plan, i: u8) -> bool
     requires { (plan_ruled device plan ≡ true) × (i < plan.legs) }
 {
     let l = leg_at(plan, i);
     let number = marks_before(plan, i);
-    if put_line(Line::Mark(number, l.start)) {
+    if put_line(streams, Line::Mark(number, l.start)) {
         let last = rank_along(plan.ports, l.start, l.back, l.run);
-        return put_line(Line::Mark(number + l.run, last));
+        return put_line(streams, Line::Mark(number + l.run, last));
     }
     false
 }
 
 // A leg: its start, its run, its first mark and its last.
-fn put_leg(plan: Plan, i: u8) -> bool
+fn put_leg(streams: &mut Streams, plan: Plan, i: u8) -> bool
     requires { (plan_ruled device plan ≡ true) × (i < plan.legs) }
 {
     let l = leg_at(plan, i);
-    if put_number(b"start=", l.start) {
+    if put_number(streams, b"start=", l.start) {
         let run = run_line(Signed {
             back: l.back,
             magnitude: l.run,
         });
-        if put_spelled(run) {
-            return put_ends(plan, i);
+        if put_spelled(streams, run) {
+            return put_ends(streams, plan, i);
         }
     }
     false
 }
 
 // The legs, one after the other.
-fn put_legs(plan: Plan) -> bool
+fn put_legs(streams: &mut Streams, plan: Plan) -> bool
     requires { plan_ruled device plan ≡ true }
 {
     let mut i: u8 = 0;
     while i < plan.legs {
-        if put_leg(plan, i) {
+        if put_leg(streams, plan, i) {
             i += 1;
         } else {
             return false;
@@ -243,23 +243,23 @@ fn put_legs(plan: Plan) -> bool
 }
 
 // What a plan names, and the gaps that it leaves.
-fn put_named(plan: Plan) -> bool
+fn put_named(streams: &mut Streams, plan: Plan) -> bool
     requires { plan_ruled device plan ≡ true }
 {
     let mut buf = [0u8; NAMED_BYTES];
     let n = named_text(plan, &mut buf);
-    put(&buf[..n])
+    put(streams, &buf[..n])
 }
 
 // The facts of a whole plan.
-fn put_plan(plan: Plan) -> bool
+fn put_plan(streams: &mut Streams, plan: Plan) -> bool
     requires { plan_ruled device plan ≡ true }
 {
-    if put_ports(plan.ports) {
-        if put_number(b"legs=", plan.legs as u64) {
-            if put_legs(plan) {
-                if put_line(Line::End(marks_before(plan, plan.legs))) {
-                    return put_named(plan);
+    if put_ports(streams, plan.ports) {
+        if put_number(streams, b"legs=", plan.legs as u64) {
+            if put_legs(streams, plan) {
+                if put_line(streams, Line::End(marks_before(plan, plan.legs))) {
+                    return put_named(streams, plan);
                 }
             }
         }
@@ -268,39 +268,40 @@ fn put_plan(plan: Plan) -> bool
 }
 
 // The facts of a question that was accepted.
-fn put_facts(plan: Plan, whole: bool, mark: u64) -> bool
+fn put_facts(streams: &mut Streams, plan: Plan, whole: bool, mark: u64) -> bool
     requires { (plan_ruled device plan ≡ true) × (mark < marks (legs_of plan)) }
 {
     if whole {
-        return put_plan(plan);
+        return put_plan(streams, plan);
     }
-    put_mark(plan, mark)
+    put_mark(streams, plan, mark)
 }
 
 // A text judged, and its facts or its refusal.
-fn put_question(text: &[u8]) {
+fn put_question(streams: &mut Streams, text: &[u8]) {
     let question = ask(text);
     let judged = question.judged;
     let plan = question.plan;
     let whole = question.whole;
     let mark = question.mark;
     match judged {
-        Outcome::Refused(f) => refused(b"show", f),
+        Outcome::Refused(f) => refused(streams, b"show", f),
         Outcome::Accepted => {
-            if put_facts(plan, whole, mark) {
-                printed();
+            if put_facts(streams, plan, whole, mark) {
+                printed(streams);
             }
         }
     }
 }
 
-fn main() {
+fn main(rt: HostRuntime) {
+    let mut streams = open_streams(&rt);
     let mut text = [0u8; JUDGED];
-    let input = read_input(&mut text);
+    let input = read_input(&mut streams, &mut text);
     if input.failed {
-        unreadable(b"show", b"question");
+        unreadable(&mut streams, b"show", b"question");
         return;
     }
     let n = input.len;
-    put_question(&text[..n]);
+    put_question(&mut streams, &text[..n]);
 }

@@ -2,14 +2,14 @@
 // for. The first line that is refused ends it: its refusal is printed with the line's number, and the command is told the line as well.
 #![tactic(auto)]
 
-ghost use Rattle.std.specs.Prelude.{◌+◌, ◌≤◌, ◌<◌, length};
-ghost use Rattle.io.specs.Counts.{IsPrefixLen};
+ghost use Rattle.std.specs.Prelude.{◌+◌, ◌≤◌, ◌<◌, ◌≡◌, length, take};
 ghost use Rattle.listing.specs.Limits.{largest64};
 ghost use Rattle.translating.specs.Lines.{most_line, SoFar};
 ghost use Rattle.translate.specs.Turns.{HoldsIs, TurnIs};
 
 use console::{
-    printed, read_more, refused_at, tell, tell_earlier, tell_number, unreadable, written,
+    Streams, open_streams, printed, read_more, refused_at, tell, tell_earlier, tell_number,
+    unreadable, written,
 };
 use text_keys::{Found, find};
 use translating_line::LINE_BYTES;
@@ -20,6 +20,11 @@ use words::{Reason, Refusal};
 // A proved loop has to end, and nothing says that the input does. So each loop counts its turns down, from a number that no run uses up: the lines of so many buffers
 // of 4,096 bytes still have numbers of 64 bits.
 const TURNS: u64 = 4503599627370494;
+
+// How many bytes of the input are held at most, and how many are written at a time.
+const HELD_BYTES: usize = 4096;
+
+const PUT_BYTES: usize = 65536;
 
 // What goes on from turn to turn beside the bytes that are held at the front of the buffer: how many they are, whether whole lines are still among them, the ports so
 // far, 0 for none, and the number of the next line.
@@ -61,7 +66,9 @@ fn at_most_line(n: usize) -> usize
 
 // How many bytes are told of the line that a text begins with: none after its newline, and no more than a good line has.
 fn shown(left: &[u8]) -> usize
-    ensures { IsPrefixLen result left.now × (result ≤ most_line) }
+    ensures fits { result ≤ length left.now }
+    ensures front { result ≡ length (take result left.now) }
+    ensures shown { result ≤ most_line }
 {
     match find(left, b'\n') {
         Found::At(k) => at_most_line(k),
@@ -70,25 +77,25 @@ fn shown(left: &[u8]) -> usize
 }
 
 // A refused line, with which the text that is left begins: its refusal printed, and all that is known of it told to the command.
-fn refuse(f: Refusal, ports: u8, line: u64, left: &[u8]) {
+fn refuse(streams: &mut Streams, f: Refusal, ports: u8, line: u64, left: &[u8]) {
     let reason = f.reason;
     let place = f.place;
-    if refused_at(b"translate", reason, line) {
-        tell_number(b"jack=", place_number(place) as u64);
-        tell_earlier(place);
-        tell_number(b"ports=", ports as u64);
+    if refused_at(streams, b"translate", reason, line) {
+        tell_number(streams, b"jack=", place_number(place) as u64);
+        tell_earlier(streams, place);
+        tell_number(streams, b"ports=", ports as u64);
         let n = shown(left);
-        tell(b"line=");
-        tell(&left[..n]);
-        tell(b"\n");
+        tell(streams, b"line=");
+        tell(streams, &left[..n]);
+        tell(streams, b"\n");
     }
 }
 
 // One reading of a line that is too long, into the buffer after the bytes that are told of it.
-fn read_on(text: &mut [u8]) -> Rest
+fn read_on(streams: &mut Streams, text: &mut [u8]) -> Rest
     requires { most_line < length text.old }
 {
-    let input = read_more(text, LINE_BYTES);
+    let input = read_more(streams, text, LINE_BYTES);
     if input.failed {
         return Rest::Failed;
     }
@@ -103,12 +110,12 @@ fn read_on(text: &mut [u8]) -> Rest
 }
 
 // The rest of such a line, until its newline or the end.
-fn rest_of_line(text: &mut [u8]) -> Rest
+fn rest_of_line(streams: &mut Streams, text: &mut [u8]) -> Rest
     requires { most_line < length text.old }
 {
     let mut turns = TURNS;
     while 0 < turns {
-        match read_on(text) {
+        match read_on(streams, text) {
             Rest::Endless => {
                 turns -= 1;
             }
@@ -127,41 +134,60 @@ fn rest_of_line(text: &mut [u8]) -> Rest
 }
 
 // The input could not be read.
-fn failed() {
-    unreadable(b"translate", b"numbers");
+fn failed(streams: &mut Streams) {
+    unreadable(streams, b"translate", b"numbers");
 }
 
 // A line that is too long: it is read on, since its refusal is another where no newline comes.
-fn refuse_long(text: &mut [u8], ports: u8, line: u64)
+fn refuse_long(streams: &mut Streams, text: &mut [u8], ports: u8, line: u64)
     requires { most_line < length text.old }
 {
-    match rest_of_line(text) {
-        Rest::Newline => refuse(nowhere(Reason::Number), ports, line, &text[..LINE_BYTES]),
-        Rest::Ended => refuse(nowhere(Reason::Ended), ports, line, &text[..LINE_BYTES]),
-        Rest::Failed => failed(),
+    match rest_of_line(streams, text) {
+        Rest::Newline => refuse(
+            streams,
+            nowhere(Reason::Number),
+            ports,
+            line,
+            &text[..LINE_BYTES],
+        ),
+        Rest::Ended => refuse(
+            streams,
+            nowhere(Reason::Ended),
+            ports,
+            line,
+            &text[..LINE_BYTES],
+        ),
+        Rest::Failed => failed(streams),
         Rest::Endless => (),
     }
 }
 
 // The input is at its end: all is printed, unless bytes without a newline are left.
-fn finish(left: &[u8], ports: u8, line: u64) {
+fn finish(streams: &mut Streams, left: &[u8], ports: u8, line: u64) {
     if left.len() == 0 {
-        printed();
+        printed(streams);
         return;
     }
-    refuse(nowhere(Reason::Ended), ports, line, left);
+    refuse(streams, nowhere(Reason::Ended), ports, line, left);
 }
 
 // ---- turn by turn
 
 // How it goes on after a part, with what is left of it at the front of the buffer.
-fn go_on(text: &mut [u8], left: usize, ports: u8, line: u64, stop: Stop) -> Turn
+fn go_on(
+    streams: &mut Streams,
+    text: &mut [u8],
+    left: usize,
+    ports: u8,
+    line: u64,
+    stop: Stop,
+) -> Turn
     requires { left ≤ length text.old }
     ensures { HoldsIs left ports line result }
 {
     match stop {
         Stop::Refused(f) => {
-            refuse(f, ports, line, &text[..left]);
+            refuse(streams, f, ports, line, &text[..left]);
             Turn::Over
         }
         Stop::Full => Turn::On(Held {
@@ -172,7 +198,7 @@ fn go_on(text: &mut [u8], left: usize, ports: u8, line: u64, stop: Stop) -> Turn
         }),
         Stop::More => {
             if LINE_BYTES < left {
-                refuse_long(text, ports, line);
+                refuse_long(streams, text, ports, line);
                 return Turn::Over;
             }
             Turn::On(Held {
@@ -186,43 +212,44 @@ fn go_on(text: &mut [u8], left: usize, ports: u8, line: u64, stop: Stop) -> Turn
 }
 
 // The whole lines among the first n bytes of the buffer, translated and written.
-fn translate_more(text: &mut [u8], n: usize, ports: u8, line: u64) -> Turn
+fn translate_more(streams: &mut Streams, text: &mut [u8], n: usize, ports: u8, line: u64) -> Turn
     requires { SoFar ports × (n ≤ length text.old) × (line + length text.old ≤ largest64) }
     ensures { TurnIs (length text.old) line result }
 {
-    let mut out = io::large_buffer();
+    let mut out = [0u8; PUT_BYTES];
     let part = translate_held(text, n, ports, line, &mut out);
     let len = part.len;
     let stop = part.stop;
-    if written(b"translate", &out[..len]) {
-        return go_on(text, n - part.used, part.ports, part.line, stop);
+    if written(streams, b"translate", &out[..len]) {
+        return go_on(streams, text, n - part.used, part.ports, part.line, stop);
     }
     Turn::Over
 }
 
 // One turn: more bytes are read, unless whole lines are still held, and translated.
-fn take_turn(text: &mut [u8], held: Held) -> Turn
+fn take_turn(streams: &mut Streams, text: &mut [u8], held: Held) -> Turn
     requires { SoFar held.ports × (held.len ≤ length text.old) × (held.line + length text.old ≤ largest64) }
     ensures { TurnIs (length text.old) held.line result }
 {
     let from = held.len;
     if held.full {
-        return translate_more(text, from, held.ports, held.line);
+        return translate_more(streams, text, from, held.ports, held.line);
     }
-    let input = read_more(text, from);
+    let input = read_more(streams, text, from);
     if input.failed {
-        failed();
+        failed(streams);
         return Turn::Over;
     }
     if input.len == 0 {
-        finish(&text[..from], held.ports, held.line);
+        finish(streams, &text[..from], held.ports, held.line);
         return Turn::Over;
     }
-    translate_more(text, from + input.len, held.ports, held.line)
+    translate_more(streams, text, from + input.len, held.ports, held.line)
 }
 
-fn main() {
-    let mut text = io::buffer();
+fn main(rt: HostRuntime) {
+    let mut streams = open_streams(&rt);
+    let mut text = [0u8; HELD_BYTES];
     let mut held = Held {
         len: 0,
         full: false,
@@ -231,7 +258,7 @@ fn main() {
     };
     let mut turns = TURNS;
     while 0 < turns {
-        match take_turn(&mut text, held) {
+        match take_turn(&mut streams, &mut text, held) {
             Turn::On(next) => {
                 held = next;
             }
