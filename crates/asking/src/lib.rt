@@ -1,5 +1,6 @@
 // A question of a technician read from text: a pattern, a mark of a plan, or a whole plan; or the refusal with its place. What a text asks stands in specs/.
 #![tactic(auto)]
+
 pub mod patterned;
 pub mod planned;
 

@@ -1,5 +1,6 @@
 // One campaign over several benches (request 8): the share of each bench, and the benches' counts added up. The public calls of a product of its own.
 #![tactic(auto)]
+
 pub mod adding;
 pub mod faults;
 pub mod sharing;

@@ -1,5 +1,6 @@
 // The state of a campaign in words, and a rehearsal: each field at its place.
 #![tactic(auto)]
+
 pub mod places;
 pub mod rehearsals;
 

@@ -1,0 +1,12 @@
+-- `benches_calls::sharing::some_benches` meets its contract: its two tests are those of the definition.
+use borrow.Author.Tests.{lt-leb, le-leb}
+use Rattle.words.specs.Shape.{one_of}
+use Rattle.benches_calls.proofs.sharing.some_benches.Goals as goal
+
+pub returns-then-benches-lt1 : goal.returns-then-benches-lt1
+unfolding one_of
+returns-then-benches-lt1 c = rw (lt-leb 1 c.args.benches c.if-benches-lt1.true)
+
+pub returns : goal.returns
+unfolding one_of
+returns c = rw (le-leb 1 c.args.benches c.if-benches-lt1.false)
