@@ -107,7 +107,7 @@ hop_b-leads m (suc (suc h)) big hi =
 -- ---- from the last pattern to the first
 
 -- for 2 ports the last pattern is the first
-last-two : carry_all [] (last 2) ≡ home 2
+pub last-two : carry_all [] (last 2) ≡ home 2
 unfolding carry_all last home tabulate is odd
 last-two = refl
 
@@ -117,7 +117,7 @@ module _ (c : ℕ) (pos : 1 ≤ c) where
   n = suc (suc c)
 
   -- one turn closes the circuit for odd n, one swap for even n
-  closes-odd : odd n ≡ true → carry (turn c n (suc c)) (last n) ≡ home n
+  pub closes-odd : odd n ≡ true → carry (turn c n (suc c)) (last n) ≡ home n
   closes-odd b =
       let len : length (last n) ≡ n = length_last n in
       carries-to (turn c n (suc c)) (last n) (home n) (length-home n ∙ sym len) (λ j h.
@@ -127,7 +127,7 @@ module _ (c : ℕ) (pos : 1 ≤ c) where
       (λ x y e. rw e (last-third c pos ∙ rw b (sym (home-low n (suc c) (omega arith) (omega arith)))))
       (λ x y z. last-low c pos j (omega arith) (omega arith) ∙ sym (home-low n j (omega arith) (omega arith))))
 
-  closes-even : odd n ≡ false → carry (swap c n) (last n) ≡ home n
+  pub closes-even : odd n ≡ false → carry (swap c n) (last n) ≡ home n
   closes-even b =
       let len : length (last n) ≡ n = length_last n in
       carries-to (swap c n) (last n) (home n) (length-home n ∙ sym len) (λ j h.
@@ -149,13 +149,3 @@ module _ (c : ℕ) (pos : 1 ≤ c) where
   closing-swap b =
       let two-less : n - 2 ≡ c = omega arith in
       closing-even n (omega arith) b ∙ rw two-less
-
-  closes : (b : Bool) → odd n ≡ b → Leads n (closing n) (last n) (home n)
-  unfolding carry_all
-  closes true b = rw (closing-turn b) record { long = length_last n; form = omega arith; makes = closes-odd b }
-  closes false b = rw (closing-swap b) record { long = length_last n; form = omega arith; makes = closes-even b }
-
--- one move closes the circuit
-pub closing-leads : (m : ℕ) → Leads (suc (suc m)) (closing (suc (suc m))) (last (suc (suc m))) (home (suc (suc m)))
-closing-leads zero = rw (closing-two 2 refl) record { long = length_last 2; form = tt; makes = last-two }
-closing-leads (suc m) = closes (suc m) (omega arith) (odd (suc (suc (suc m)))) refl

@@ -22,7 +22,8 @@ use Rattle.listing.proofs.Moves.{leads-back}
 use Rattle.listing.proofs.Lifting.{leads-a, leads-b}
 use Rattle.listing.proofs.Homes.{Holds, home-holds, home-holds-one, added, length-added, A-swap, B-turn}
 use Rattle.listing.proofs.Rows.{join-one-odd, join-one-even, join-inner, join-third, join-second, join-top-odd, join-top-even}
-use Rattle.listing.proofs.Hops.{closing-leads, closing-turn, closing-swap}
+use Rattle.listing.proofs.Hops.{closing-turn, closing-swap}
+use Rattle.listing.proofs.Closing.{closing-leads}
 
 -- ---- the three orders
 
@@ -40,22 +41,22 @@ home-join m i x hi ne holds =
 
 -- n is k + 4, so that k, k₁, k₂, k₃ are the jacks n-4 to n-1
 module _ (k : ℕ) (pos : 1 ≤ k) where
-  abbrev n : ℕ
+  abbrev pub n : ℕ
   n = suc (suc (suc (suc k)))
 
-  abbrev k₁ : ℕ
+  abbrev pub k₁ : ℕ
   k₁ = suc k
 
-  abbrev k₂ : ℕ
+  abbrev pub k₂ : ℕ
   k₂ = suc (suc k)
 
-  abbrev k₃ : ℕ
+  abbrev pub k₃ : ℕ
   k₃ = suc (suc (suc k))
 
-  abbrev from : ℕ → List ℕ
+  abbrev pub from : ℕ → List ℕ
   from i = step_a n i (last k₃)
 
-  abbrev to : ℕ → List ℕ
+  abbrev pub to : ℕ → List ℕ
   to i = step_b n i (last k₂)
 
   -- block i of these: jack x of home holds i, and r, s, t are the jacks k, k₁, k₂ with room made for i
@@ -135,7 +136,7 @@ module _ (k : ℕ) (pos : 1 ≤ k) where
   on-four = same-orders n (k ∷ k₁ ∷ k₂ ∷ k₃ ∷ []) (omega arith)
 
   -- i = 1
-  row_one : (b : Bool) → odd n ≡ b → Leads n (join n 1) (from 1) (to 1)
+  pub row_one : (b : Bool) → odd n ≡ b → Leads n (join n 1) (from 1) (to 1)
   unfolding carry_all carry plain tabulate source is
   row_one true b =
       row true b 1 k₃ k₁ k₂ k₃ place-one (one (turn 1 k₁ k₂)) (join-one-odd n 1 (omega arith) refl b ∙ rw (less.1, less.2)) (omega arith)
@@ -147,7 +148,7 @@ module _ (k : ℕ) (pos : 1 ≤ k) where
       (turn 2 4 3 ∷ swap 4 1 ∷ swap 2 4 ∷ []) (turn 1 3 2 ∷ []) (omega arith) (omega arith) refl)
 
   -- i from 2 to n-4, as h + 1
-  row-inner : (b : Bool) → odd n ≡ b → (h : ℕ) → 1 ≤ h → h < k → Leads n (join n (suc h)) (from (suc h)) (to (suc h))
+  pub row-inner : (b : Bool) → odd n ≡ b → (h : ℕ) → 1 ≤ h → h < k → Leads n (join n (suc h)) (from (suc h)) (to (suc h))
   unfolding carry_all carry plain tabulate source is
   row-inner b parity h low high =
       let i : ℕ = suc h in
@@ -161,7 +162,7 @@ module _ (k : ℕ) (pos : 1 ≤ k) where
       (turn 3 5 4 ∷ swap 1 2 ∷ swap 3 5 ∷ []) (swap 1 2 ∷ swap 3 4 ∷ []) (omega arith) (omega arith) refl)
 
   -- i = n-3
-  row-third : (b : Bool) → odd n ≡ b → Leads n (join n k₁) (from k₁) (to k₁)
+  pub row-third : (b : Bool) → odd n ≡ b → Leads n (join n k₁) (from k₁) (to k₁)
   unfolding carry_all carry plain tabulate source is
   row-third b parity =
       row-both b parity k₁ k k k₂ k₃
@@ -171,7 +172,7 @@ module _ (k : ℕ) (pos : 1 ≤ k) where
       (on-four (turn 2 4 3 ∷ swap 1 2 ∷ swap 1 4 ∷ []) (turn 1 3 2 ∷ []) (omega arith) (omega arith) refl)
 
   -- i = n-2
-  row-second : (b : Bool) → odd n ≡ b → Leads n (join n k₂) (from k₂) (to k₂)
+  pub row-second : (b : Bool) → odd n ≡ b → Leads n (join n k₂) (from k₂) (to k₂)
   unfolding carry_all carry plain tabulate source is
   row-second b parity =
       row-both b parity k₂ k₁ k k₁ k₃
@@ -185,7 +186,7 @@ module _ (k : ℕ) (pos : 1 ≤ k) where
       place-more k₂ k k₁ k₂ (omega arith) (omega arith) (raise-low k₃ k (omega arith)) (raise-low k₃ k₁ (omega arith)) (raise-low k₃ k₂ (omega arith))
 
   -- i = n-1
-  row-top : (b : Bool) → odd n ≡ b → Leads n (join n k₃) (from k₃) (to k₃)
+  pub row-top : (b : Bool) → odd n ≡ b → Leads n (join n k₃) (from k₃) (to k₃)
   unfolding carry_all carry plain tabulate source is
   row-top true b =
       row true b k₃ k₂ k k₁ k₂ place-top
@@ -195,35 +196,3 @@ module _ (k : ℕ) (pos : 1 ≤ k) where
       row false b k₃ k₂ k k₁ k₂ place-top
       (two k k₂ k₁ k₃) (join-top-even n k₃ (omega arith) (omega arith) b ∙ rw (less.0, less.1, less.2, less.3)) (omega arith)
       (on-four (turn 2 4 3 ∷ swap 3 4 ∷ swap 1 3 ∷ []) (swap 1 3 ∷ swap 2 4 ∷ []) (omega arith) (omega arith) refl)
-
-  -- and these are all
-  rows : (b : Bool) → odd n ≡ b → (i : ℕ) → Among k₃ i → Leads n (join n i) (from i) (to i)
-  rows b parity zero hi = absurd (omega arith)
-  rows b parity (suc zero) hi = row_one b parity
-  rows b parity (suc (suc h)) hi =
-      either (below? (suc h) k)
-      (λ l. row-inner b parity (suc h) (omega arith) l)
-      (λ l. either (same? (suc h) k)
-      (λ e. rw e (row-third b parity))
-      (λ l₁. either (same? (suc h) k₁)
-      (λ e. rw e (row-second b parity))
-      (λ l₂. let e : suc h ≡ k₂ = omega arith in rw e (row-top b parity))))
-
--- ---- relation (7), by computation
-
--- n = 4
-join-four : (i : ℕ) → Among 3 i → Leads 4 (join 4 i) (step_a 4 i (last 3)) (step_b 4 i (last 2))
-unfolding join join4 carry_all carry tabulate source step_a step_b last odd is trade raise lower
-join-four zero hi = absurd (omega arith)
-join-four (suc zero) hi = record { long = refl; form = omega arith; makes = refl }
-join-four (suc (suc zero)) hi = record { long = refl; form = omega arith; makes = refl }
-join-four (suc (suc (suc zero))) hi = record { long = refl; form = omega arith; makes = refl }
-join-four (suc (suc (suc (suc i)))) hi = absurd (omega arith)
-
--- one move joins A(i) of the last pattern of n - 1 to B(i) of the last of n - 2
-pub join-leads : (m i : ℕ) → 2 ≤ m → Among (suc m) i
-    → Leads (suc (suc m)) (join (suc (suc m)) i) (step_a (suc (suc m)) i (last (suc m))) (step_b (suc (suc m)) i (last m))
-join-leads zero i big hi = absurd (omega arith)
-join-leads (suc zero) i big hi = absurd (omega arith)
-join-leads (suc (suc zero)) i big hi = join-four i hi
-join-leads (suc (suc (suc k))) i big hi = rows (suc k) (omega arith) (odd (suc (suc (suc (suc (suc k)))))) refl i hi

@@ -1,3 +1,5 @@
+pub mod Tests
+pub mod Raising
 pub mod Numbers
 pub mod Panels
 pub mod Sources
@@ -16,7 +18,9 @@ pub mod Rows
 pub mod EndEntries
 pub mod Homes
 pub mod Hops
+pub mod Closing
 pub mod Joins
+pub mod Joining
 pub mod OneMove
 pub mod Ends
 pub mod Neighbours

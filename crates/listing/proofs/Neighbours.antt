@@ -26,8 +26,9 @@ use Rattle.listing.proofs.Ends.{at_home, at_last}
 use Rattle.listing.proofs.Moves.{leads-back}
 use Rattle.listing.proofs.OneMove.{one-move}
 use Rattle.listing.proofs.Lifting.{leads-a, leads-b}
-use Rattle.listing.proofs.Hops.{hop_a-leads, hop_b-leads, closing-leads}
-use Rattle.listing.proofs.Joins.{join-leads}
+use Rattle.listing.proofs.Hops.{hop_a-leads, hop_b-leads}
+use Rattle.listing.proofs.Closing.{closing-leads}
+use Rattle.listing.proofs.Joining.{join-leads}
 
 -- the rank after r, where r is not the last, and where it is
 pub next-on : (n r : ℕ) → suc r ≢ count n → next_rank n r ≡ suc r

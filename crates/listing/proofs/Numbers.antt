@@ -8,19 +8,11 @@ use Prim.Native.Nat.{ℕ, zero, suc, ◌-◌, ◌%◌, ◌≤◌, ◌<◌}
 use native.Mathlib.Omega.{arith}
 use lib.Dec.{eqb, leb, ltb}
 use borrow.Author.Tests.{eqb-true, eqb-false, leb-true, leb-false, ltb-true, ltb-false, eq-eqb, ne_eqb}
+pub use Rattle.listing.proofs.Tests.{either, test}
+pub use Rattle.listing.proofs.Raising.{raise-cases}
 use Rattle.listing.specs.Numbers.{Among, before, is, trade, raise, lower, odd}
 
 -- ---- two cases
-
--- of two cases, what each of them proves
-pub either : {A B C : Type 0} → A ⊎ B → (A → C) → (B → C) → C
-either (inl a) f g = f a
-either (inr b) f g = g b
-
--- a test is true or false
-pub test : (t : Bool) → (t ≡ true) ⊎ (t ≡ false)
-test true = inl refl
-test false = inr refl
 
 -- what is so of two values is so of the one that a test takes
 pub of_test : {A : Type 0} (Is : A → Type 0) (t : Bool) (a b : A) → Is a → Is b → Is (cond t a b)
@@ -74,10 +66,6 @@ unfolding trade
 trade-cases a b v = is-cases v a b v
 
 -- ---- raise and lower
-
-pub raise-cases : (i v : ℕ) → ((v < i) × (raise i v ≡ v)) ⊎ ((i ≤ v) × (raise i v ≡ suc v))
-unfolding raise
-raise-cases i v = either (test (leb i v)) (λ e. inr (leb-true i v e, rw e)) (λ e. inl (leb-false i v e, rw e))
 
 pub lower-cases : (i v : ℕ) → ((v ≤ i) × (lower i v ≡ v)) ⊎ ((i < v) × (suc (lower i v) ≡ v))
 unfolding lower

@@ -29,8 +29,9 @@ use Rattle.listing.proofs.Ends.{at_home, at_last}
 use Rattle.listing.proofs.Moves.{leads-back}
 use Rattle.listing.proofs.Lifting.{leads-a, leads-b}
 use Rattle.listing.proofs.Rows.{hop-odd, hop-even}
-use Rattle.listing.proofs.Hops.{hop_a-leads, hop_b-leads, closing-leads}
-use Rattle.listing.proofs.Joins.{join-leads}
+use Rattle.listing.proofs.Hops.{hop_a-leads, hop_b-leads}
+use Rattle.listing.proofs.Closing.{closing-leads}
+use Rattle.listing.proofs.Joining.{join-leads}
 use Rattle.listing.proofs.Neighbours.{next-on, next-round, previous-back, previous-round, turn-3, only-beside}
 use Rattle.listing_course.specs.Course.{built, Course, CourseOf}
 use Rattle.listing_course.specs.Onward.{read_at, lifted_by, join_from, hop_from, on_level, goes_on, or_closing, bottom_read, course_move, Next, On}

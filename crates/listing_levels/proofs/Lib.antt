@@ -1,3 +1,4 @@
 pub mod Blocks
 pub mod Levels
 pub mod Worked
+pub mod Followed

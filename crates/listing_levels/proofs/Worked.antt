@@ -1,23 +1,18 @@
 -- The levels of two patterns, worked out (docs/RANKS.md has both in words): 54231 of rank 9, and 78461352 of rank 2311.
 -- Assumes nothing.
-use mathlib.Core.Path.{◌≡◌, refl, subst}
-use mathlib.Core.Bool.{true, false, cond}
+use mathlib.Core.Path.{◌≡◌, refl}
+use mathlib.Core.Bool.{true, false}
 use mathlib.Core.List.{List, [], ◌∷◌}
-use Prim.Native.Nat.{ℕ, ◌+◌, ◌*◌, ◌-◌}
-use native.Mathlib.Omega.{arith}
-use Rattle.listing.specs.Numbers.{before, odd, is, trade, raise, lower}
-use Rattle.listing.specs.Pattern.{entry, tabulate, Derangement}
+use Rattle.listing.specs.Numbers.{odd, is, trade, raise, lower}
+use Rattle.listing.specs.Pattern.{tabulate}
 use Rattle.listing.specs.Count.{count}
 use Rattle.listing.specs.Steps.{by_a, by_b, step_a, step_b, un_a, un_b, letter}
-use Rattle.listing.specs.Listing.{joined, block, blocks, listing, at}
 use Rattle.listing.specs.Reading.{passed}
-use Rattle.listing.proofs.Ranks.{at-derangement}
-use Rattle.listing_levels.specs.Levels.{Level, levels, total, rebuilt, Follow}
-use Rattle.listing_levels.proofs.Levels.{levels-follow}
+use Rattle.listing_levels.specs.Levels.{Level, levels, total, rebuilt}
 
 -- 54231 ends in 1 and came by B from 312, whose list is read backward: all 9 by A(1) are passed over. 312 ends in 2 and came by A from 21, and its list,
 -- backward, begins with it
-abbrev five : List Level
+abbrev pub five : List Level
 five =
     record { ports = 5; last = 1; by = by_b; forward = false; over = 9 }
     ∷ record { ports = 3; last = 2; by = by_a; forward = true; over = 0 }
@@ -26,13 +21,6 @@ five =
 pub five-levels : (levels true 5 (5 ∷ 4 ∷ 2 ∷ 3 ∷ 1 ∷ []) ≡ five) × (total five ≡ 9) × (rebuilt five ≡ 5 ∷ 4 ∷ 2 ∷ 3 ∷ 1 ∷ [])
 unfolding levels total rebuilt letter passed count step_a step_b un_a un_b tabulate odd is trade raise lower
 five-levels = (refl, refl, refl)
-
--- so it is in the list itself: what each of these levels says, and no other record says so
-pub five-follow : Follow true 5 (5 ∷ 4 ∷ 2 ∷ 3 ∷ 1 ∷ []) five
-unfolding at listing blocks block joined count step_a step_b tabulate odd is trade raise lower
-five-follow =
-    let D : Derangement 5 (5 ∷ 4 ∷ 2 ∷ 3 ∷ 1 ∷ []) = at-derangement 5 9 (omega arith) in
-    subst (Follow true 5 (5 ∷ 4 ∷ 2 ∷ 3 ∷ 1 ∷ [])) five-levels.0 (levels-follow 5 true (5 ∷ 4 ∷ 2 ∷ 3 ∷ 1 ∷ []) D)
 
 -- 78461352 meets both letters, and lists read both ways
 abbrev eight : List Level

@@ -3,6 +3,7 @@
 use mathlib.Core.Path.{◌≡◌}
 use mathlib.Core.List.{List, ◌++◌}
 use Prim.Native.Nat.{ℕ}
+use native.Mathlib.Omega.{arith}
 use Rattle.text_numbers.specs.Decimal.{digits_of}
 use Rattle.line_putting.proofs.Putting.{puts-as, room_as}
 use Rattle.line_refusal.specs.Words.{quoted}
@@ -32,7 +33,7 @@ repeated-so : (c : In-4) → jack_text c.args.place (quoted ": port ") c.args.x 
 repeated-so c = wrong-4 _ _ _ _ c.in-4.is
 
 own-so : (c : In_default) → jack_text c.args.place (quoted ": port ") c.args.place ++ quoted " has the jack's own number" ≡ words c.before.before.before
-own-so c = wrong-5 _ _ _ _ (c.in_default.in_default-own.rest.0.0.0.0.1, c.in_default.in_default-own.rest.0.0.0.1, c.in_default.in_default-own.rest.0.0.1, c.in_default.in_default-own.rest.0.1, c.in_default.in_default-own.rest.1)
+own-so c = wrong-5 _ _ _ _ ((λ e. omega (arith, e)), (λ e. omega (arith, e)), (λ e. omega (arith, e)), (λ e. omega (arith, e)), (λ e. omega (arith, e)))
 
 pub put_text-requires : goal.put_text-requires
 unfolding quoted
