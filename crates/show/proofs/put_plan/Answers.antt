@@ -1,0 +1,8 @@
+-- `show::put_plan`: the ports of a plan within the rules are 2 to 20.
+-- Assumes nothing.
+use borrow.Author.Rules.{rules}
+use Rattle.showing.proofs.Ruled.{ports-ruled}
+use Rattle.show.proofs.put_plan.Goals as goal
+
+pub put_ports-requires : goal.put_ports-requires
+put_ports-requires c = ports-ruled c.args.plan (search rules) (search rules) c.requires
