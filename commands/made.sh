@@ -33,7 +33,7 @@ sources() {
         cat "$kit/KIT-ID" crates.txt
         for crate in $crates; do
             find "crates/$crate" \( -path "crates/$crate/out" -o -path "crates/$crate/must-fail" \) -prune -o -type f -print0
-        done | sort -z | xargs -0 sha256sum
+        done | LC_ALL=C sort -z | xargs -0 sha256sum
     ) 2>/dev/null | sha256sum
 }
 
