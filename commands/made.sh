@@ -46,3 +46,13 @@ keep_program() {
         cp "$root/crates/$name/out/$name" "$program.new" && chmod 755 "$program.new" && mv "$program.new" "$program" &&
         echo "$1 $(sha256sum <"$program")" >"$built.new" && mv "$built.new" "$built"
 }
+
+# libraries: a sum of the libraries that stand below the crate in out/, each by its file that has the sum of all others
+libraries() {
+    (
+        cd "$root" || exit 1
+        for crate in $crates; do
+            [ "$crate" = "$name" ] || sha256sum "crates/$crate/out/rlib/$crate.rlib/format" || echo "no $crate"
+        done
+    ) 2>/dev/null | sha256sum
+}
