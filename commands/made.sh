@@ -33,7 +33,7 @@ sources() {
         cat "$kit/KIT-ID" crates.txt
         for crate in $crates; do
             find "crates/$crate" \( -path "crates/$crate/out" -o -path "crates/$crate/must-fail" \) -prune -o -type f -print0
-        done | sort -z | xargs -0 sha256sum
+        done | LC_ALL=C sort -z | xargs -0 sha256sum
     ) 2>/dev/null | sha256sum
 }
 
@@ -45,4 +45,14 @@ keep_program() {
     mkdir -p "$root/target/bin" "$root/target/built" &&
         cp "$root/crates/$name/out/$name" "$program.new" && chmod 755 "$program.new" && mv "$program.new" "$program" &&
         echo "$1 $(sha256sum <"$program")" >"$built.new" && mv "$built.new" "$built"
+}
+
+# libraries: a sum of the libraries that stand below the crate in out/, each by its file that has the sum of all others
+libraries() {
+    (
+        cd "$root" || exit 1
+        for crate in $crates; do
+            [ "$crate" = "$name" ] || sha256sum "crates/$crate/out/rlib/$crate.rlib/format" || echo "no $crate"
+        done
+    ) 2>/dev/null | sha256sum
 }

@@ -5,9 +5,9 @@ type reference_library >/dev/null 2>&1 || . "$root/tests/reference/build.sh"
 type archive_ready >/dev/null 2>&1 || . "$root/tests/archive.sh"
 . "$root/tests/commands/each.sh"
 benches_archive=target/host/libjidrofex_benches.a
-benches_out=$root/target/benches
-rm -rf "$benches_out"
-mkdir -p "$benches_out/found"
+# outside the tree, since it has links, which `rt ci` takes nowhere in the tree
+benches_out=$(mktemp -d)
+mkdir "$benches_out/found"
 
 # ---- the library beside the reference, with campaigns by the other library: one line for each group
 benches_differential() {

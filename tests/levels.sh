@@ -3,9 +3,9 @@
 # rank. The page for new colleagues shows what is printed. How the command ends otherwise, and its words on standard error, are in commands.sh.
 type reference_library >/dev/null 2>&1 || . "$root/tests/reference/build.sh"
 . "$root/tests/commands/each.sh"
-levels_out=$root/target/levels
-rm -rf "$levels_out"
-mkdir -p "$levels_out/found"
+# outside the tree, since it has links, which `rt ci` takes nowhere in the tree
+levels_out=$(mktemp -d)
+mkdir "$levels_out/found"
 
 # levels_different: `NAME what is different` of each input of which something else is printed than the reference prints, or than is known of it: a pattern is
 # explained, and a fault meets its refusal at its jack, which the words name

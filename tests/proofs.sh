@@ -20,6 +20,9 @@ proofs_made() {
 proofs_programs=$(for command in bin/*; do [ ! -f "crates/${command#bin/}/src/main.rt" ] || echo "${command#bin/}"; done)
 proofs_libraries=$(sed -n 's/^\([a-z_0-9]*\) staticlib:.*/\1/p' crates.txt)
 for crate in $proofs_programs $proofs_libraries; do proofs_made "$crate" >"$proofs_out/$crate"; done
+# whether libraries of an earlier run or of a check stand below a crate: rt puts them back as they were
+proofs_had() { (made_of "$1" && for crate in $crates; do [ ! -e "crates/$crate/out/rlib" ] || exit 0; done; exit 1); }
+for crate in $proofs_libraries; do ! proofs_had "$crate" || : >"$proofs_out/$crate.had"; done
 
 {
     rt ci 2>&1
@@ -71,8 +74,16 @@ if [ "$verdict" -eq 0 ] && [ "$ci_failed" -eq 0 ]; then
             (made_of "$command" && keep_program "$(cat "$proofs_out/$command")") || fail "the program $command, which rt ci made, cannot be kept"
         fi
     done
-    # what the libraries for C are made from was proved: tools/host-archive need not prove it once more
+    # what the libraries for C are made from was proved, and stands there as rt ci made it: tools/host-archive need not prove it once more. Where libraries were
+    # there before, they are rt ci's own only if an earlier run of the same sources left just these
     mkdir -p target/proved
-    for crate in $proofs_libraries; do cp "$proofs_out/$crate" "target/proved/$crate"; done
+    for crate in $proofs_libraries; do
+        proofs_left="$(cat "$proofs_out/$crate") $(made_of "$crate" && libraries)"
+        if [ ! -e "$proofs_out/$crate.had" ]; then
+            echo "$proofs_left" >"target/proved/$crate"
+        elif [ "$(cat "target/proved/$crate" 2>/dev/null)" != "$proofs_left" ]; then
+            rm -f "target/proved/$crate"
+        fi
+    done
 fi
 rm -rf "$proofs_out"

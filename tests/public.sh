@@ -35,7 +35,7 @@ fi
 # public_faces HEADER: the files of the calls of a header; public_exports HEADER: the one of the static library that exports them
 public_faces() {
     case $1 in
-        jidrofex) ls crates/face_*/src/*.rt | grep -v '^crates/face_c/' ;;
+        jidrofex) for public_file in crates/face_*/src/*.rt; do case $public_file in crates/face_c/*) ;; *) echo "$public_file" ;; esac; done ;;
         jidrofex_benches) echo crates/benches_face/src/*.rt ;;
     esac
 }

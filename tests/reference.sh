@@ -25,18 +25,20 @@ reference_differential() {
 
 # the commands of docs/USING.md that build the examples and run one, as they stand there, in a folder that has what they name
 reference_commands() {
-    reference_folder=$reference_out/as-told
+    # outside the tree, since it has links, which `rt ci` takes nowhere in the tree
+    reference_folder=$(mktemp -d)
     reference_builds=$(sed -n 's/^    \(\(cc\|rustc\) .*\)$/\1/p' docs/USING.md)
     reference_runs=$(sed -n 's/^    \(\.\/campaign .*\)$/\1/p' docs/USING.md)
     [ "$(echo "$reference_builds" | grep -c .)" -eq 2 ] || fail 'reference: docs/USING.md does not have two commands that build the examples'
     [ "$(echo "$reference_runs" | grep -c .)" -eq 1 ] || fail 'reference: docs/USING.md does not have one command that runs an example'
     echo "$reference_builds" | while read -r reference_command; do
         rm -rf "$reference_folder"
-        mkdir -p "$reference_folder"
+        mkdir "$reference_folder"
         for entry in include examples plans target; do ln -s "$PWD/$entry" "$reference_folder/$entry"; done
         (cd "$reference_folder" && sh -c "$reference_command" && sh -c "$reference_runs") >"$reference_out/found" 2>&1 &&
             cmp -s "$reference_out/found" "$reference_out/output" || echo "$reference_command"
     done >"$reference_out/log"
+    rm -rf "$reference_folder"
     if [ -s "$reference_out/log" ]; then
         cat "$reference_out/found" "$reference_out/log"
         fail 'reference: a command of docs/USING.md does not build an example that prints the paper'"'"'s output'

@@ -4,9 +4,9 @@
 # are in commands.sh.
 type reference_library >/dev/null 2>&1 || . "$root/tests/reference/build.sh"
 . "$root/tests/commands/each.sh"
-translation_out=$root/target/translation
-rm -rf "$translation_out"
-mkdir -p "$translation_out/texts" "$translation_out/each"
+# outside the tree, since it has links, which `rt ci` takes nowhere in the tree
+translation_out=$(mktemp -d)
+mkdir "$translation_out/texts" "$translation_out/each"
 
 # translation_wanted TEXT: what the reference prints of a text, and its status on a last line
 translation_wanted() {

@@ -1,5 +1,5 @@
 # The programs without proofs: `rt try` compiles each with a check at every step that could go wrong, where the proofs say that none does, and what it writes is
-# what is expected of it. On the kit's interpreter it runs those that open no file, which none of them is since each tells by a descriptor how it ended.
+# what is expected of it. A program that opens no file it runs on the kit's interpreter as well; those of the commands open the descriptor on which they tell.
 mkdir -p target
 for program in orders show named translate explain benches cases; do
     tries_case=$(mktemp -d)
