@@ -30,7 +30,12 @@ export LC_ALL
 { true 3>&1; } 2>/dev/null || exec 1</dev/null
 true 3>&2 || exec 2>/dev/null
 # the status where standard output cannot be written: a pipe has lost its reader, also where SIGPIPE is ignored
-if [ -p /dev/stdout ]; then unwritten=$pipe_gone; else unwritten=$unwritable; fi
+if [ -p /dev/stdout ] || [ -S /dev/stdout ]; then unwritten=$pipe_gone; else unwritten=$unwritable; fi
+# whether SIGPIPE is ignored, as a shell cannot ask: the thirteenth bit of the signals that are
+case $(sed -n 's/^SigIgn:.*\(.\)...$/\1/p' /proc/$$/status 2>/dev/null) in
+    [13579bdf]) ignored=yes ;;
+    *) ignored=no ;;
+esac
 
 # ---- what is said
 
@@ -334,7 +339,11 @@ finish() {
             exit "$was_refused"
             ;;
         unreadable) exit "$unreadable" ;;
-        unwritable) exit "$unwritten" ;;
+        unwritable)
+            # of a reader that went away the program says nothing, and nor do we, unless SIGPIPE is ignored
+            [ "$unwritten" = "$unwritable" ] || [ "$ignored" = no ] || complain "$not_written"
+            exit "$unwritten"
+            ;;
     esac
     [ "$ended" -eq 0 ] || exit "$ended"
     give_up "$not_built" 'the program ended and did not say how'
