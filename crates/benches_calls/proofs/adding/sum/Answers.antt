@@ -36,8 +36,7 @@ returns-then-not-in_size c = ports-refused _ _ _ (sym c.in_size.ensures ∙ not-
 pub returns-then-not-some_benches : goal.returns-then-not-some_benches
 unfolding sum_of
 returns-then-not-some_benches c =
-    benches-refused _ _ _ (sym c.in_size.ensures ∙ not-false _ (ap not c.if-not-in_size.false))
-    (sym c.some_benches.ensures ∙ not-true _ (ap not c.if-not-some_benches.true))
+    benches-refused _ _ _ (sym c.in_size.ensures ∙ not-false _ (ap not c.if-not-in_size.false)) (sym c.some_benches.ensures ∙ not-true _ (ap not c.if-not-some_benches.true))
 
 pub overflow_mul-benches : goal.overflow_mul-benches
 overflow_mul-benches c = omega (arith, (one-of _ _ (benches (goal.at.overflow_mul-benches c).Else-not-some_benches)).1)

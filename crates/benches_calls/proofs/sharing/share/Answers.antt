@@ -41,8 +41,7 @@ returns-then-not-in_size c = ports-refused _ _ _ (sym c.in_size.ensures ∙ not-
 pub returns-then-not-some_benches : goal.returns-then-not-some_benches
 unfolding share_of
 returns-then-not-some_benches c =
-    benches-refused _ _ _ (sym c.in_size.ensures ∙ not-false _ (ap not c.if-not-in_size.false))
-    (sym c.some_benches.ensures ∙ not-true _ (ap not c.if-not-some_benches.true))
+    benches-refused _ _ _ (sym c.in_size.ensures ∙ not-false _ (ap not c.if-not-in_size.false)) (sym c.some_benches.ensures ∙ not-true _ (ap not c.if-not-some_benches.true))
 
 pub returns-then-benches-bench : goal.returns-then-benches-bench
 returns-then-benches-bench c = bench-refused _ _ _ (ports (goal.at.returns-then-benches-bench c).Else-not-some_benches) (benches (goal.at.returns-then-benches-bench c).Else-not-some_benches) (omega (arith, c.if-benches-bench.true))
@@ -63,7 +62,4 @@ marks_of-requires c = (small (goal.at.marks_of-requires c).After-count_of-total,
 pub returns : goal.returns
 unfolding plan_of
 returns c =
-    c.leg_from.ensures
-    ∙ ap accepted (ap₂ {C = Option Leg} leg_from (c.start_of.ensures ∙ ap (λ t. begins t c.args.benches c.args.bench) c.count_of-total.ensures)
-    (c.marks_of.ensures ∙ ap (λ t. share t c.args.benches c.args.bench) c.count_of-total.ensures))
-    ∙ share-told _ _ _ (ports (goal.at.returns c).Else-not-some_benches) (benches (goal.at.returns c).Else-not-some_benches) (omega (arith, c.if-benches-bench.false))
+    c.leg_from.ensures ∙ ap accepted (ap₂ {C = Option Leg} leg_from (c.start_of.ensures ∙ ap (λ t. begins t c.args.benches c.args.bench) c.count_of-total.ensures) (c.marks_of.ensures ∙ ap (λ t. share t c.args.benches c.args.bench) c.count_of-total.ensures)) ∙ share-told _ _ _ (ports (goal.at.returns c).Else-not-some_benches) (benches (goal.at.returns c).Else-not-some_benches) (omega (arith, c.if-benches-bench.false))

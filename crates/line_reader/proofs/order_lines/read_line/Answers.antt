@@ -32,8 +32,7 @@ overflow_add-place-in-At-2 c = let h = inside (goal.at.overflow_add-place-in-At-
 
 pub returns-in-Nowhere : goal.returns-in-Nowhere
 returns-in-Nowhere c =
-    ap refusal_of c.nowhere.ensures
-    ∙ no-newline largest64 most_ports _ _ (sym (ap found_is c.in-Nowhere.is) ∙ c.newline_from.ensures)
+    ap refusal_of c.nowhere.ensures ∙ no-newline largest64 most_ports _ _ (sym (ap found_is c.in-Nowhere.is) ∙ c.newline_from.ensures)
 
 pub returns-in-At : goal.returns-in-At
 returns-in-At c =

@@ -48,14 +48,11 @@ read_legs-requires c =
 
 pub returns-in-Refused : goal.returns-in-Refused
 returns-in-Refused c =
-    subst (λ told. Answers most_legs told c.refused.result)
-    (ports-refused device 1 _ _ _ (sym (ap (line_told _) c.in-Refused.is) ∙ c.value_at.ensures.told)) c.refused.ensures
+    subst (λ told. Answers most_legs told c.refused.result) (ports-refused device 1 _ _ _ (sym (ap (line_told _) c.in-Refused.is) ∙ c.value_at.ensures.told)) c.refused.ensures
 
 pub returns-in-Refused-value_at : goal.returns-in-Refused-value_at
 returns-in-Refused-value_at c =
-    subst (λ told. Answers most_legs told c.refused-in-Refused-value_at.result)
-    (legs-line-refused device 1 _ _ (ports-read (goal.at.returns-in-Refused-value_at c).In-Value) _ _ (sym (ap (line_told _) c.in-Refused-value_at.is) ∙ c.value_at-in-Value.ensures.told))
-    c.refused-in-Refused-value_at.ensures
+    subst (λ told. Answers most_legs told c.refused-in-Refused-value_at.result) (legs-line-refused device 1 _ _ (ports-read (goal.at.returns-in-Refused-value_at c).In-Value) _ _ (sym (ap (line_told _) c.in-Refused-value_at.is) ∙ c.value_at-in-Value.ensures.told)) c.refused-in-Refused-value_at.ensures
 
 pub returns-in-Value-value_at : goal.returns-in-Value-value_at
 returns-in-Value-value_at c =
