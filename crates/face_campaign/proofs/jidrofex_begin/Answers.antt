@@ -12,10 +12,10 @@ pub returns-then-state-ne-STATE_WORDS-clause-number : goal.returns-then-state-ne
 returns-then-state-ne-STATE_WORDS-clause-number c = (tells-leaving nothing (begin-wrong state_count c.args.text.now (state_words (begun_of c.args.text.now)) c.args.state.now c.if-state-ne-STATE_WORDS.true) (c.unfit.ensures.number, c.unfit.ensures.words)).0
 
 pub returns-then-state-ne-STATE_WORDS-clause-words : goal.returns-then-state-ne-STATE_WORDS-clause-words
-returns-then-state-ne-STATE_WORDS-clause-words c = (tells-leaving nothing (begin-wrong state_count c.args.text.now (state_words (begun_of c.args.text.now)) c.args.state.now c.if-state-ne-STATE_WORDS.true) (c.unfit.ensures.number, c.unfit.ensures.words)).1
+returns-then-state-ne-STATE_WORDS-clause-words c = (tells-leaving nothing (begin-wrong state_count c.args.text.now (state_words (begun_of c.args.text.now)) c.args.state.now c.if-state-ne-STATE_WORDS.true) (c.unfit.ensures.number, c.unfit.ensures.words)).1.0
 
 pub returns-then-state-ne-STATE_WORDS-clause-left : goal.returns-then-state-ne-STATE_WORDS-clause-left
-returns-then-state-ne-STATE_WORDS-clause-left c = (tells-leaving nothing (begin-wrong state_count c.args.text.now (state_words (begun_of c.args.text.now)) c.args.state.now c.if-state-ne-STATE_WORDS.true) (c.unfit.ensures.number, c.unfit.ensures.words)).2
+returns-then-state-ne-STATE_WORDS-clause-left c = (tells-leaving nothing (begin-wrong state_count c.args.text.now (state_words (begun_of c.args.text.now)) c.args.state.now c.if-state-ne-STATE_WORDS.true) (c.unfit.ensures.number, c.unfit.ensures.words)).1.1
 
 pub returns-clause-number : goal.returns-clause-number
 returns-clause-number c = let w = begin-right state_count c.args.text.now (state_words (begun_of c.args.text.now)) c.args.state.now c.if-state-ne-STATE_WORDS.false in
@@ -25,9 +25,9 @@ returns-clause-number c = let w = begin-right state_count c.args.text.now (state
 pub returns-clause-words : goal.returns-clause-words
 returns-clause-words c = let w = begin-right state_count c.args.text.now (state_words (begun_of c.args.text.now)) c.args.state.now c.if-state-ne-STATE_WORDS.false in
     let left = c.state_out.ensures ∙ ap state_words c.begin-begun.ensures.state ∙ w.1 in
-    (tells-leaving nothing (c.begin-begun.ensures.judged ∙ w.0, left) (c.give_outcome.ensures.number, c.give_outcome.ensures.words)).1
+    (tells-leaving nothing (c.begin-begun.ensures.judged ∙ w.0, left) (c.give_outcome.ensures.number, c.give_outcome.ensures.words)).1.0
 
 pub returns-clause-left : goal.returns-clause-left
 returns-clause-left c = let w = begin-right state_count c.args.text.now (state_words (begun_of c.args.text.now)) c.args.state.now c.if-state-ne-STATE_WORDS.false in
     let left = c.state_out.ensures ∙ ap state_words c.begin-begun.ensures.state ∙ w.1 in
-    (tells-leaving nothing (c.begin-begun.ensures.judged ∙ w.0, left) (c.give_outcome.ensures.number, c.give_outcome.ensures.words)).2
+    (tells-leaving nothing (c.begin-begun.ensures.judged ∙ w.0, left) (c.give_outcome.ensures.number, c.give_outcome.ensures.words)).1.1

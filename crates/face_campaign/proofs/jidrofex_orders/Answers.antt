@@ -3,7 +3,7 @@
 use mathlib.Core.Path.{◌≡◌, sym, ◌∙◌}
 use mathlib.Core.Option.{some}
 use lib.ListN.{length}
-use Rattle.face_values.proofs.Tells.{tells-leaving}
+use Rattle.face_values.proofs.Tells.{tells, tells-leaving}
 use Rattle.face_state.specs.Rehearsals.{rehearsal_in}
 use Rattle.face_state.proofs.RehearsalWords.{words-many, held-rehearsal, held-no-rehearsal}
 use Rattle.face_laws.specs.Values.{bytes_and_end}
@@ -21,32 +21,22 @@ pub rehearsal_out-requires : goal.rehearsal_out-requires
 rehearsal_out-requires c = words-many _ _ (sym (is (goal.at.rehearsal_out-requires c).Then-held))
 
 pub returns-then-held-clause-number : goal.returns-then-held-clause-number
-returns-then-held-clause-number c = let room = length c.args.buffer.now in
-    let told = c.fill-printed.ensures.told.told ∙ on-told rehearsals (print_told room) c.args.rehearsal.now (is (goal.at.returns-then-held-clause-number c).Then-held) in
-    let left = c.rehearsal_out.ensures ∙ orders-left room c.args.rehearsal.now (is (goal.at.returns-then-held-clause-number c).Then-held) c.fill-printed.ensures.told.rehearsal in
-    let bytes = c.fill-printed.ensures.bytes ∙ on-bytes rehearsals print_bytes c.args.rehearsal.now (is (goal.at.returns-then-held-clause-number c).Then-held) c.args.buffer.now in
-    (tells-leaving bytes_and_end (told, (left, bytes)) (c.give_filled.ensures.number, c.give_filled.ensures.words)).0
+returns-then-held-clause-number c =
+    let told = c.fill-printed.ensures.told.told ∙ on-told rehearsals (print_told (length c.args.buffer.now)) c.args.rehearsal.now (is (goal.at.returns-then-held-clause-number c).Then-held) in
+    (tells bytes_and_end told (c.give_filled.ensures.number, c.give_filled.ensures.words)).0
 
 pub returns-then-held-clause-words : goal.returns-then-held-clause-words
-returns-then-held-clause-words c = let room = length c.args.buffer.now in
-    let told = c.fill-printed.ensures.told.told ∙ on-told rehearsals (print_told room) c.args.rehearsal.now (is (goal.at.returns-then-held-clause-words c).Then-held) in
-    let left = c.rehearsal_out.ensures ∙ orders-left room c.args.rehearsal.now (is (goal.at.returns-then-held-clause-words c).Then-held) c.fill-printed.ensures.told.rehearsal in
-    let bytes = c.fill-printed.ensures.bytes ∙ on-bytes rehearsals print_bytes c.args.rehearsal.now (is (goal.at.returns-then-held-clause-words c).Then-held) c.args.buffer.now in
-    (tells-leaving bytes_and_end (told, (left, bytes)) (c.give_filled.ensures.number, c.give_filled.ensures.words)).1
+returns-then-held-clause-words c =
+    let told = c.fill-printed.ensures.told.told ∙ on-told rehearsals (print_told (length c.args.buffer.now)) c.args.rehearsal.now (is (goal.at.returns-then-held-clause-words c).Then-held) in
+    (tells bytes_and_end told (c.give_filled.ensures.number, c.give_filled.ensures.words)).1
 
 pub returns-then-held-clause-left : goal.returns-then-held-clause-left
-returns-then-held-clause-left c = let room = length c.args.buffer.now in
-    let told = c.fill-printed.ensures.told.told ∙ on-told rehearsals (print_told room) c.args.rehearsal.now (is (goal.at.returns-then-held-clause-left c).Then-held) in
-    let left = c.rehearsal_out.ensures ∙ orders-left room c.args.rehearsal.now (is (goal.at.returns-then-held-clause-left c).Then-held) c.fill-printed.ensures.told.rehearsal in
-    let bytes = c.fill-printed.ensures.bytes ∙ on-bytes rehearsals print_bytes c.args.rehearsal.now (is (goal.at.returns-then-held-clause-left c).Then-held) c.args.buffer.now in
-    (tells-leaving bytes_and_end (told, (left, bytes)) (c.give_filled.ensures.number, c.give_filled.ensures.words)).2
+returns-then-held-clause-left c =
+    c.rehearsal_out.ensures ∙ orders-left (length c.args.buffer.now) c.args.rehearsal.now (is (goal.at.returns-then-held-clause-left c).Then-held) c.fill-printed.ensures.told.rehearsal
 
 pub returns-then-held-clause-bytes : goal.returns-then-held-clause-bytes
-returns-then-held-clause-bytes c = let room = length c.args.buffer.now in
-    let told = c.fill-printed.ensures.told.told ∙ on-told rehearsals (print_told room) c.args.rehearsal.now (is (goal.at.returns-then-held-clause-bytes c).Then-held) in
-    let left = c.rehearsal_out.ensures ∙ orders-left room c.args.rehearsal.now (is (goal.at.returns-then-held-clause-bytes c).Then-held) c.fill-printed.ensures.told.rehearsal in
-    let bytes = c.fill-printed.ensures.bytes ∙ on-bytes rehearsals print_bytes c.args.rehearsal.now (is (goal.at.returns-then-held-clause-bytes c).Then-held) c.args.buffer.now in
-    (tells-leaving bytes_and_end (told, (left, bytes)) (c.give_filled.ensures.number, c.give_filled.ensures.words)).3
+returns-then-held-clause-bytes c =
+    c.fill-printed.ensures.bytes ∙ on-bytes rehearsals print_bytes c.args.rehearsal.now (is (goal.at.returns-then-held-clause-bytes c).Then-held) c.args.buffer.now
 
 pub returns-clause-number : goal.returns-clause-number
 returns-clause-number c = let room = length c.args.buffer.now in
@@ -56,14 +46,14 @@ returns-clause-number c = let room = length c.args.buffer.now in
 pub returns-clause-words : goal.returns-clause-words
 returns-clause-words c = let room = length c.args.buffer.now in
     let no = held-no-rehearsal c.rehearsal_in-held.result c.rehearsal_in-held.ensures c.if-held.false in
-    (tells-leaving bytes_and_end (off-buffer rehearsals c.args.rehearsal.now no (print_told room) (print_left room) print_bytes c.args.buffer.now) (c.unfit.ensures.number, c.unfit.ensures.words)).1
+    (tells-leaving bytes_and_end (off-buffer rehearsals c.args.rehearsal.now no (print_told room) (print_left room) print_bytes c.args.buffer.now) (c.unfit.ensures.number, c.unfit.ensures.words)).1.0
 
 pub returns-clause-left : goal.returns-clause-left
 returns-clause-left c = let room = length c.args.buffer.now in
     let no = held-no-rehearsal c.rehearsal_in-held.result c.rehearsal_in-held.ensures c.if-held.false in
-    (tells-leaving bytes_and_end (off-buffer rehearsals c.args.rehearsal.now no (print_told room) (print_left room) print_bytes c.args.buffer.now) (c.unfit.ensures.number, c.unfit.ensures.words)).2
+    (tells-leaving bytes_and_end (off-buffer rehearsals c.args.rehearsal.now no (print_told room) (print_left room) print_bytes c.args.buffer.now) (c.unfit.ensures.number, c.unfit.ensures.words)).1.1.0
 
 pub returns-clause-bytes : goal.returns-clause-bytes
 returns-clause-bytes c = let room = length c.args.buffer.now in
     let no = held-no-rehearsal c.rehearsal_in-held.result c.rehearsal_in-held.ensures c.if-held.false in
-    (tells-leaving bytes_and_end (off-buffer rehearsals c.args.rehearsal.now no (print_told room) (print_left room) print_bytes c.args.buffer.now) (c.unfit.ensures.number, c.unfit.ensures.words)).3
+    (tells-leaving bytes_and_end (off-buffer rehearsals c.args.rehearsal.now no (print_told room) (print_left room) print_bytes c.args.buffer.now) (c.unfit.ensures.number, c.unfit.ensures.words)).1.1.1

@@ -25,17 +25,17 @@ returns-then-held-clause-number c = let x = reported-told (report c.args.kind) c
 
 pub returns-then-held-clause-words : goal.returns-then-held-clause-words
 returns-then-held-clause-words c = let x = reported-told (report c.args.kind) c.args.state.now (is (goal.at.returns-then-held-clause-words c).Then-held) c.report-r.ensures in
-    (tells-leaving nothing (x.0, c.state_out.ensures ∙ x.1) (heard c.report-r.result.answer (c.give_outcome.ensures.number, c.give_outcome.ensures.words))).1
+    (tells-leaving nothing (x.0, c.state_out.ensures ∙ x.1) (heard c.report-r.result.answer (c.give_outcome.ensures.number, c.give_outcome.ensures.words))).1.0
 
 pub returns-then-held-clause-left : goal.returns-then-held-clause-left
 returns-then-held-clause-left c = let x = reported-told (report c.args.kind) c.args.state.now (is (goal.at.returns-then-held-clause-left c).Then-held) c.report-r.ensures in
-    (tells-leaving nothing (x.0, c.state_out.ensures ∙ x.1) (heard c.report-r.result.answer (c.give_outcome.ensures.number, c.give_outcome.ensures.words))).2
+    (tells-leaving nothing (x.0, c.state_out.ensures ∙ x.1) (heard c.report-r.result.answer (c.give_outcome.ensures.number, c.give_outcome.ensures.words))).1.1
 
 pub returns-clause-number : goal.returns-clause-number
 returns-clause-number c = (tells-leaving nothing (unread-told (report c.args.kind) c.args.state.now (held_none c.state_in-held.result c.state_in-held.ensures c.if-held.false)) (c.unfit.ensures.number, c.unfit.ensures.words)).0
 
 pub returns-clause-words : goal.returns-clause-words
-returns-clause-words c = (tells-leaving nothing (unread-told (report c.args.kind) c.args.state.now (held_none c.state_in-held.result c.state_in-held.ensures c.if-held.false)) (c.unfit.ensures.number, c.unfit.ensures.words)).1
+returns-clause-words c = (tells-leaving nothing (unread-told (report c.args.kind) c.args.state.now (held_none c.state_in-held.result c.state_in-held.ensures c.if-held.false)) (c.unfit.ensures.number, c.unfit.ensures.words)).1.0
 
 pub returns-clause-left : goal.returns-clause-left
-returns-clause-left c = (tells-leaving nothing (unread-told (report c.args.kind) c.args.state.now (held_none c.state_in-held.result c.state_in-held.ensures c.if-held.false)) (c.unfit.ensures.number, c.unfit.ensures.words)).2
+returns-clause-left c = (tells-leaving nothing (unread-told (report c.args.kind) c.args.state.now (held_none c.state_in-held.result c.state_in-held.ensures c.if-held.false)) (c.unfit.ensures.number, c.unfit.ensures.words)).1.1

@@ -23,32 +23,22 @@ pub state_out-requires : goal.state_out-requires
 state_out-requires c = state-length _ (is (goal.at.state_out-requires c).Then-held)
 
 pub returns-then-held-clause-number : goal.returns-then-held-clause-number
-returns-then-held-clause-number c = let call = request (length c.args.buffer.now) in
-    let t = order-bytes (answer_of call _) c.request-r.ensures.told.written (tells (order_then _) c.request-r.ensures.told.answer (c.give_order.ensures.number, c.give_order.ensures.words)) in
-    let left = c.state_out.ensures ∙ called-left call c.args.state.now (is (goal.at.returns-then-held-clause-number c).Then-held) c.request-r.ensures.told.state in
-    let bytes = c.request-r.ensures.bytes ∙ on-bytes states bytes_of c.args.state.now (is (goal.at.returns-then-held-clause-number c).Then-held) c.args.buffer.now in
-    (tells-leaving order_and_bytes (on-told states (told_by call) c.args.state.now (is (goal.at.returns-then-held-clause-number c).Then-held), (left, bytes)) t).0
+returns-then-held-clause-number c =
+    let t = order-bytes (answer_of (request (length c.args.buffer.now)) _) c.request-r.ensures.told.written (tells (order_then _) c.request-r.ensures.told.answer (c.give_order.ensures.number, c.give_order.ensures.words)) in
+    (tells order_and_bytes (on-told states (told_by (request (length c.args.buffer.now))) c.args.state.now (is (goal.at.returns-then-held-clause-number c).Then-held)) t).0
 
 pub returns-then-held-clause-words : goal.returns-then-held-clause-words
-returns-then-held-clause-words c = let call = request (length c.args.buffer.now) in
-    let t = order-bytes (answer_of call _) c.request-r.ensures.told.written (tells (order_then _) c.request-r.ensures.told.answer (c.give_order.ensures.number, c.give_order.ensures.words)) in
-    let left = c.state_out.ensures ∙ called-left call c.args.state.now (is (goal.at.returns-then-held-clause-words c).Then-held) c.request-r.ensures.told.state in
-    let bytes = c.request-r.ensures.bytes ∙ on-bytes states bytes_of c.args.state.now (is (goal.at.returns-then-held-clause-words c).Then-held) c.args.buffer.now in
-    (tells-leaving order_and_bytes (on-told states (told_by call) c.args.state.now (is (goal.at.returns-then-held-clause-words c).Then-held), (left, bytes)) t).1
+returns-then-held-clause-words c =
+    let t = order-bytes (answer_of (request (length c.args.buffer.now)) _) c.request-r.ensures.told.written (tells (order_then _) c.request-r.ensures.told.answer (c.give_order.ensures.number, c.give_order.ensures.words)) in
+    (tells order_and_bytes (on-told states (told_by (request (length c.args.buffer.now))) c.args.state.now (is (goal.at.returns-then-held-clause-words c).Then-held)) t).1
 
 pub returns-then-held-clause-left : goal.returns-then-held-clause-left
-returns-then-held-clause-left c = let call = request (length c.args.buffer.now) in
-    let t = order-bytes (answer_of call _) c.request-r.ensures.told.written (tells (order_then _) c.request-r.ensures.told.answer (c.give_order.ensures.number, c.give_order.ensures.words)) in
-    let left = c.state_out.ensures ∙ called-left call c.args.state.now (is (goal.at.returns-then-held-clause-left c).Then-held) c.request-r.ensures.told.state in
-    let bytes = c.request-r.ensures.bytes ∙ on-bytes states bytes_of c.args.state.now (is (goal.at.returns-then-held-clause-left c).Then-held) c.args.buffer.now in
-    (tells-leaving order_and_bytes (on-told states (told_by call) c.args.state.now (is (goal.at.returns-then-held-clause-left c).Then-held), (left, bytes)) t).2
+returns-then-held-clause-left c =
+    c.state_out.ensures ∙ called-left (request (length c.args.buffer.now)) c.args.state.now (is (goal.at.returns-then-held-clause-left c).Then-held) c.request-r.ensures.told.state
 
 pub returns-then-held-clause-bytes : goal.returns-then-held-clause-bytes
-returns-then-held-clause-bytes c = let call = request (length c.args.buffer.now) in
-    let t = order-bytes (answer_of call _) c.request-r.ensures.told.written (tells (order_then _) c.request-r.ensures.told.answer (c.give_order.ensures.number, c.give_order.ensures.words)) in
-    let left = c.state_out.ensures ∙ called-left call c.args.state.now (is (goal.at.returns-then-held-clause-bytes c).Then-held) c.request-r.ensures.told.state in
-    let bytes = c.request-r.ensures.bytes ∙ on-bytes states bytes_of c.args.state.now (is (goal.at.returns-then-held-clause-bytes c).Then-held) c.args.buffer.now in
-    (tells-leaving order_and_bytes (on-told states (told_by call) c.args.state.now (is (goal.at.returns-then-held-clause-bytes c).Then-held), (left, bytes)) t).3
+returns-then-held-clause-bytes c =
+    c.request-r.ensures.bytes ∙ on-bytes states bytes_of c.args.state.now (is (goal.at.returns-then-held-clause-bytes c).Then-held) c.args.buffer.now
 
 pub returns-clause-number : goal.returns-clause-number
 returns-clause-number c = let call = request (length c.args.buffer.now) in
@@ -58,14 +48,14 @@ returns-clause-number c = let call = request (length c.args.buffer.now) in
 pub returns-clause-words : goal.returns-clause-words
 returns-clause-words c = let call = request (length c.args.buffer.now) in
     let no = held_none c.state_in-held.result c.state_in-held.ensures c.if-held.false in
-    (tells-leaving order_and_bytes (off-buffer states c.args.state.now no (told_by call) (left_of call) bytes_of c.args.buffer.now) (c.unfit.ensures.number, c.unfit.ensures.words)).1
+    (tells-leaving order_and_bytes (off-buffer states c.args.state.now no (told_by call) (left_of call) bytes_of c.args.buffer.now) (c.unfit.ensures.number, c.unfit.ensures.words)).1.0
 
 pub returns-clause-left : goal.returns-clause-left
 returns-clause-left c = let call = request (length c.args.buffer.now) in
     let no = held_none c.state_in-held.result c.state_in-held.ensures c.if-held.false in
-    (tells-leaving order_and_bytes (off-buffer states c.args.state.now no (told_by call) (left_of call) bytes_of c.args.buffer.now) (c.unfit.ensures.number, c.unfit.ensures.words)).2
+    (tells-leaving order_and_bytes (off-buffer states c.args.state.now no (told_by call) (left_of call) bytes_of c.args.buffer.now) (c.unfit.ensures.number, c.unfit.ensures.words)).1.1.0
 
 pub returns-clause-bytes : goal.returns-clause-bytes
 returns-clause-bytes c = let call = request (length c.args.buffer.now) in
     let no = held_none c.state_in-held.result c.state_in-held.ensures c.if-held.false in
-    (tells-leaving order_and_bytes (off-buffer states c.args.state.now no (told_by call) (left_of call) bytes_of c.args.buffer.now) (c.unfit.ensures.number, c.unfit.ensures.words)).3
+    (tells-leaving order_and_bytes (off-buffer states c.args.state.now no (told_by call) (left_of call) bytes_of c.args.buffer.now) (c.unfit.ensures.number, c.unfit.ensures.words)).1.1.1

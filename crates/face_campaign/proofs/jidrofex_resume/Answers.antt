@@ -27,12 +27,12 @@ returns-then-held-clause-number c = let told = c.resume-r.ensures.judged ∙ res
 pub returns-then-held-clause-words : goal.returns-then-held-clause-words
 returns-then-held-clause-words c = let told = c.resume-r.ensures.judged ∙ resume-told c.args.panel.now c.args.state.now (is (goal.at.returns-then-held-clause-words c).Then-held) in
     let left = c.state_out.ensures ∙ resume-left c.args.panel.now c.args.state.now (is (goal.at.returns-then-held-clause-words c).Then-held) c.resume-r.ensures.state in
-    (tells-leaving nothing (told, left) (c.give_outcome.ensures.number, c.give_outcome.ensures.words)).1
+    (tells-leaving nothing (told, left) (c.give_outcome.ensures.number, c.give_outcome.ensures.words)).1.0
 
 pub returns-then-held-clause-left : goal.returns-then-held-clause-left
 returns-then-held-clause-left c = let told = c.resume-r.ensures.judged ∙ resume-told c.args.panel.now c.args.state.now (is (goal.at.returns-then-held-clause-left c).Then-held) in
     let left = c.state_out.ensures ∙ resume-left c.args.panel.now c.args.state.now (is (goal.at.returns-then-held-clause-left c).Then-held) c.resume-r.ensures.state in
-    (tells-leaving nothing (told, left) (c.give_outcome.ensures.number, c.give_outcome.ensures.words)).2
+    (tells-leaving nothing (told, left) (c.give_outcome.ensures.number, c.give_outcome.ensures.words)).1.1
 
 pub returns-in-Refused-clause-number : goal.returns-in-Refused-clause-number
 returns-in-Refused-clause-number c = let no = held_none c.state_in-held.result c.state_in-held.ensures c.if-held.false in
@@ -42,12 +42,12 @@ returns-in-Refused-clause-number c = let no = held_none c.state_in-held.result c
 pub returns-in-Refused-clause-words : goal.returns-in-Refused-clause-words
 returns-in-Refused-clause-words c = let no = held_none c.state_in-held.result c.state_in-held.ensures c.if-held.false in
     (tells-leaving nothing
-    (resume-panel c.args.panel.now c.args.state.now no c.in-Refused.f (ap outcome_told (sym c.in-Refused.is) ∙ c.check_panel.ensures)) (c.refuse.ensures.number, c.refuse.ensures.words)).1
+    (resume-panel c.args.panel.now c.args.state.now no c.in-Refused.f (ap outcome_told (sym c.in-Refused.is) ∙ c.check_panel.ensures)) (c.refuse.ensures.number, c.refuse.ensures.words)).1.0
 
 pub returns-in-Refused-clause-left : goal.returns-in-Refused-clause-left
 returns-in-Refused-clause-left c = let no = held_none c.state_in-held.result c.state_in-held.ensures c.if-held.false in
     (tells-leaving nothing
-    (resume-panel c.args.panel.now c.args.state.now no c.in-Refused.f (ap outcome_told (sym c.in-Refused.is) ∙ c.check_panel.ensures)) (c.refuse.ensures.number, c.refuse.ensures.words)).2
+    (resume-panel c.args.panel.now c.args.state.now no c.in-Refused.f (ap outcome_told (sym c.in-Refused.is) ∙ c.check_panel.ensures)) (c.refuse.ensures.number, c.refuse.ensures.words)).1.1
 
 pub returns-in-Accepted-clause-number : goal.returns-in-Accepted-clause-number
 returns-in-Accepted-clause-number c = let no = held_none c.state_in-held.result c.state_in-held.ensures c.if-held.false in
@@ -55,8 +55,8 @@ returns-in-Accepted-clause-number c = let no = held_none c.state_in-held.result 
 
 pub returns-in-Accepted-clause-words : goal.returns-in-Accepted-clause-words
 returns-in-Accepted-clause-words c = let no = held_none c.state_in-held.result c.state_in-held.ensures c.if-held.false in
-    (tells-leaving nothing (resume-none c.args.panel.now c.args.state.now no (ap outcome_told (sym c.in-Accepted.is) ∙ c.check_panel.ensures)) (c.unfit.ensures.number, c.unfit.ensures.words)).1
+    (tells-leaving nothing (resume-none c.args.panel.now c.args.state.now no (ap outcome_told (sym c.in-Accepted.is) ∙ c.check_panel.ensures)) (c.unfit.ensures.number, c.unfit.ensures.words)).1.0
 
 pub returns-in-Accepted-clause-left : goal.returns-in-Accepted-clause-left
 returns-in-Accepted-clause-left c = let no = held_none c.state_in-held.result c.state_in-held.ensures c.if-held.false in
-    (tells-leaving nothing (resume-none c.args.panel.now c.args.state.now no (ap outcome_told (sym c.in-Accepted.is) ∙ c.check_panel.ensures)) (c.unfit.ensures.number, c.unfit.ensures.words)).2
+    (tells-leaving nothing (resume-none c.args.panel.now c.args.state.now no (ap outcome_told (sym c.in-Accepted.is) ∙ c.check_panel.ensures)) (c.unfit.ensures.number, c.unfit.ensures.words)).1.1
