@@ -12,24 +12,20 @@ use Rattle.explaining.specs.Text.{why_text}
 use Rattle.explaining.proofs.Steps.{pattern-refused, pattern-accepted}
 use Rattle.explaining_line.proofs.Explains.{explained-as}
 use Rattle.explaining_line.proofs.explain_pattern.Goals as goal
-use Rattle.explaining_line.proofs.explain_pattern.Goals.{After-check_inverse, In-Accepted, Start}
-
--- where the call began
-abbrev start : After-check_inverse → Start
-start c = c.before.before.before.before.before
+use Rattle.explaining_line.proofs.explain_pattern.Goals.{In-Accepted}
 
 -- the check that the match found sound was accepted
-sound : (c : In-Accepted) → accepted tt ≡ check_of most_ports (start c.before.before).args.p.now
+sound : (c : In-Accepted) → accepted tt ≡ check_of most_ports c.args.p.now
 sound c = ap outcome_told (sym c.in-Accepted.is) ∙ c.check_inverse.ensures.answer
 
 -- and it took the pattern in
-taken : (c : In-Accepted) → TakenIn (start c.before.before).args.p.now c.check_inverse.new.copy c.check_inverse.new.inverse
+taken : (c : In-Accepted) → TakenIn c.args.p.now c.check_inverse.new.copy c.check_inverse.new.inverse
 taken c = c.check_inverse.ensures.inverse (sound c)
 
 pub put_why-requires : goal.put_why-requires
 put_why-requires c =
     let P = accepted-pattern most_ports _ (sound (goal.at.put_why-requires c).In-Accepted) in
-    (c.check_inverse.ensures.long, c.check_inverse.ensures.long_back, P.low, P.high, (taken (goal.at.put_why-requires c).In-Accepted).1, (start (goal.at.put_why-requires c).After-check_inverse).requires)
+    (c.check_inverse.ensures.long, c.check_inverse.ensures.long_back, P.low, P.high, (taken (goal.at.put_why-requires c).In-Accepted).1, c.requires)
 
 pub returns-in-Refused : goal.returns-in-Refused
 returns-in-Refused c =
