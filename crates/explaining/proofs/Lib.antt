@@ -1,3 +1,4 @@
 pub mod Longest
+pub mod Fitting
 pub mod Steps
 pub mod Cases

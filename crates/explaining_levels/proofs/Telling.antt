@@ -30,7 +30,7 @@ use Rattle.pattern_levels.proofs.Came.{as-came}
 use Rattle.pattern_ranks.specs.Levels.{PlacedBy}
 use Rattle.pattern_ranks.specs.declared.types.Level.{Level}
 use Rattle.explaining.specs.Text.{level_text, levels_text, rank_text, why_text, most_explained}
-use Rattle.explaining.proofs.Longest.{why-fits}
+use Rattle.explaining.proofs.Fitting.{why-fits}
 use Rattle.explaining_levels.specs.Levels.{level_is}
 
 -- the arrays have a pattern of n ports and its inverse; `sum` was passed over on the way to it from p, whose lines for the levels so far are put
