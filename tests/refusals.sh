@@ -17,7 +17,7 @@ fi
 
 refusals_copy=$(mktemp -d)
 mkdir -p "$refusals_copy/crates/listing/must-fail"
-for part in src specs proofs; do cp -R "crates/listing/$part" "$refusals_copy/crates/listing/"; done
+for refusals_part in src specs proofs; do cp -R "crates/listing/$refusals_part" "$refusals_copy/crates/listing/"; done
 echo 'listing:' >"$refusals_copy/crates.txt"
 # the words of one edit over the body of another
 crossed() {
