@@ -58,10 +58,10 @@ fi
 # what C links: a static library, on which no crate can depend, so that each call stands in a library beneath it
 for layout_library in face_c benches_c; do
     if ! grep -q "^$layout_library staticlib:" crates.txt; then
-        fail "crates.txt does not have $layout_library as a static layout_library"
+        fail "crates.txt does not have $layout_library as a static library"
     elif [ -n "$(leaning "$layout_library")" ]; then
-        fail "a crate that depends on the static layout_library $layout_library: $(echo $(leaning "$layout_library"))"
+        fail "a crate that depends on the static library $layout_library: $(echo $(leaning "$layout_library"))"
     else
-        pass "$layout_library is a static layout_library, and no crate depends on it"
+        pass "$layout_library is a static library, and no crate depends on it"
     fi
 done
