@@ -46,7 +46,9 @@ judge() {
     (cd "$types_copy" && rt ci) >"$types_copy/said" 2>&1
     while read -r crate label right wrong error; do
         [ -n "$label" ] || continue
-        if grep -qx "rt: $crate proved" "$types_copy/said" && types_said "$crate" | grep -qx "fn $crate::$label::probe: proved"; then
+        # what is kept was proved by an earlier run on this machine, from the same files
+        if grep -q "^rt: $crate is kept: " "$types_copy/said" ||
+            { grep -qx "rt: $crate proved" "$types_copy/said" && types_said "$crate" | grep -qx "fn $crate::$label::probe: proved"; }; then
             pass "types: $label: with a $right it builds and is proved"
         else
             types_said "$crate"
