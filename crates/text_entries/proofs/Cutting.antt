@@ -12,12 +12,12 @@ use lib.ListN.{length, take, drop, length-drop}
 use lib.Seq.{drop-drop}
 use Rattle.text_numbers.specs.Decimal.{number_up_to}
 use Rattle.text_numbers.specs.Answers.{read_is}
-use Rattle.text_numbers.specs.declared.Read.{Read}
-use Rattle.text_numbers.specs.declared.Read.TheVariants.{Number, Bad}
 use Rattle.text_keys.specs.Parts.{comma, later, first_of, Parts, around, cut}
 use Rattle.text_keys.proofs.Cuts.{cut-joined, first-inside}
 use Rattle.text_entries.specs.Entries.{on_first, pieces, each_number, entries_in, first_bad, bad_entry}
 use Rattle.text_entries.specs.Pieces.{EntryOf, last_of, more_of}
+use Rattle.std.specs.declared.option.Option.{Option as Maybe}
+use Rattle.std.specs.declared.option.Option.TheVariants.{Some, None}
 
 -- ---- the first byte that parts
 
@@ -66,22 +66,22 @@ module _ (t : List ℕ) (at : ℕ) (k : ℕ) (e : some k ≡ first_of comma (dro
 
 module _ (most : ℕ) (t : List ℕ) (at : ℕ) where
   -- the last one
-  pub last_entry : (r : Read) → none ≡ first_of comma (drop at t) → read_is r ≡ number_up_to most (drop at t) → EntryOf most t at (last_of r)
+  pub last_entry : (r : Maybe ℕ) → none ≡ first_of comma (drop at t) → read_is r ≡ number_up_to most (drop at t) → EntryOf most t at (last_of r)
   unfolding entries_in each_number bind bad_entry first_bad
-  last_entry (Number n) e f =
+  last_entry (Some n) e f =
       let p = one_piece comma (drop at t) (sym e) in
       record { entries = rw (p, ← f); bad = rw (p, ← f); within = tt }
-  last_entry Bad e f =
+  last_entry None e f =
       let p = one_piece comma (drop at t) (sym e) in
       record { entries = rw (p, ← f); bad = rw (p, ← f); within = tt }
 
   -- one with others after its comma
-  pub more-entries : (k : ℕ) (r : Read) → some k ≡ first_of comma (drop at t) → read_is r ≡ number_up_to most (take k (drop at t))
+  pub more-entries : (k : ℕ) (r : Maybe ℕ) → some k ≡ first_of comma (drop at t) → read_is r ≡ number_up_to most (take k (drop at t))
       → EntryOf most t at (more_of (at + k + 1) r)
   unfolding entries_in each_number bind bad_entry first_bad
-  more-entries k (Number n) e f =
+  more-entries k (Some n) e f =
       let p = others-after t at k e in
       record { entries = rw (p, ← f); bad = rw (p, ← f); within = (omega arith, omega (arith, comma-inside t at k e)) }
-  more-entries k Bad e f =
+  more-entries k None e f =
       let p = others-after t at k e in
       record { entries = rw (p, ← f); bad = rw (p, ← f); within = tt }

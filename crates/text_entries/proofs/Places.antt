@@ -17,10 +17,10 @@ use Rattle.words.specs.Told.{refused, nowhere}
 use Rattle.words.specs.Padded.{padded}
 use Rattle.words.proofs.Padded.{padded-set}
 use Rattle.text_entries.specs.Entries.{entries_in, entry_byte, few_entries, entries_of}
-use Rattle.text_entries.specs.Pieces.{HeldIs, EntriesIs}
-use Rattle.words.specs.declared.Outcome.TheVariants.{Accepted}
+use Rattle.text_entries.specs.Pieces.{HeldIs, EntriesAre}
 use Rattle.text_entries.specs.declared.Held.{Held}
 use Rattle.text_entries.specs.declared.Entries.{Entries}
+use Rattle.std.specs.declared.result.Result.TheVariants.{Ok}
 
 -- ---- an entry as a byte
 
@@ -79,18 +79,18 @@ module _ (ns : List ℕ) (h : Held) (H : HeldIs ns h) (n : ℕ) where
 
 module _ (ns : List ℕ) (h : Held) (H : HeldIs ns h) where
   -- too many
-  pub too_many : h.over ≡ true → (r : Entries) → EntriesIs (refused 1 nowhere) r → EntriesIs (few_entries ns) r
+  pub too_many : h.over ≡ true → refused 1 nowhere ≡ few_entries ns
   unfolding few_entries
-  too_many e r R =
+  too_many e =
       either (below? most_ports (length ns))
-      (λ m. rw (lt-leb (length ns) most_ports m) R)
+      (λ m. rw (lt-leb (length ns) most_ports m) refl)
       (λ m. absurd (true≢false (sym e ∙ H.over ∙ le-ltb most_ports (length ns) m)))
 
   -- not too many
   few : h.over ≡ false → length ns ≤ most_ports
   few e = either (below? most_ports (length ns)) (λ m. absurd (true≢false (sym (lt-ltb most_ports (length ns) m) ∙ sym H.over ∙ e))) (λ m. m)
 
-  pub few-enough : h.over ≡ false → EntriesIs (few_entries ns) (record { judged = Accepted; len = h.len; bytes = h.bytes })
+  pub few-enough : h.over ≡ false → EntriesAre (few_entries ns) (record { len = h.len; bytes = h.bytes })
   unfolding few_entries
   few-enough e =
       let m = few e in

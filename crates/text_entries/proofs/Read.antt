@@ -16,7 +16,7 @@ use Rattle.words.specs.Padded.{padded}
 use Rattle.words.proofs.Padded.{padded-room, padded-front}
 use Rattle.words.proofs.Told.{not-both, accepted-gives}
 use Rattle.text_entries.specs.Entries.{entries_in, entry_byte, few_entries, entries_of}
-use Rattle.text_entries.specs.Pieces.{given_in, EntriesIs}
+use Rattle.text_entries.specs.Pieces.{given_in, EntriesAre}
 use Rattle.text_entries.specs.declared.Entries.{Entries}
 
 -- no more are given than there are ports
@@ -28,35 +28,24 @@ few-given (some ns) =
     (λ m. rw (lt-leb (length ns) most_ports m) (omega arith))
     (λ m. rw (le-leb (length ns) most_ports m) (omega (arith, length-map ns entry_byte)))
 
--- a refusal of entries, told without them
-refused-so : (told : Told (List ℕ)) (k : ℕ) (s : Spot) → let judged : Told (Unit {0}) = then told (λ p. accepted tt) in
-    refused k s ≡ judged → refused k s ≡ told
-refused-so (accepted p) k s e = absurd (not-both e)
-refused-so (refused i z) k s e = ap (λ x. then x (λ u. accepted [])) e
-
-module _ (t : List ℕ) (r : Entries) (R : EntriesIs (entries_of t) r) where
+module _ (t : List ℕ) (e : Entries) (E : EntriesAre (entries_of t) e) where
   -- they are no more than there are ports, and lie in the array
-  pub entries-few : r.len ≤ most_ports
+  pub entries-few : e.len ≤ most_ports
   unfolding entries_of
-  entries-few = omega (arith, R.len, few-given (entries_in largest64 t))
+  entries-few = omega (arith, E.len, few-given (entries_in largest64 t))
 
-  pub entries-within : r.len ≤ length r.bytes
-  entries-within = omega (arith, R.len, padded-room most_ports 0 (given_in (entries_of t)), ap length R.bytes)
+  pub entries-within : e.len ≤ length e.bytes
+  entries-within = omega (arith, E.len, padded-room most_ports 0 (given_in (entries_of t)), ap length E.bytes)
 
-  -- a refusal is that of the text
-  pub not-given : (k : ℕ) (s : Spot) → refused k s ≡ outcome_told r.judged → refused k s ≡ entries_of t
-  not-given k s e = refused-so (entries_of t) k s (e ∙ R.judged)
+  -- the entries of the text
+  pub given : (p : List ℕ) × (entries_of t ≡ accepted p)
+  given = accepted-gives (entries_of t) (λ p. tt) tt E.judged
 
-  module _ (ok : accepted tt ≡ outcome_told r.judged) where
-    -- the entries of a text that was accepted
-    pub given : (p : List ℕ) × (entries_of t ≡ accepted p)
-    given = accepted-gives (entries_of t) (λ p. tt) tt (ok ∙ R.judged)
+  pub given-long : e.len ≡ length given.0
+  given-long = E.len ∙ ap (λ told. length (given_in told)) given.1
 
-    pub given-long : r.len ≡ length given.0
-    given-long = R.len ∙ ap (λ told. length (given_in told)) given.1
-
-    -- they stand at the front of the array
-    pub given-front : take r.len r.bytes ≡ given.0
-    given-front =
-        ap (take r.len) R.bytes ∙ ap (λ told. take r.len (padded most_ports 0 (given_in told))) given.1
-        ∙ padded-front most_ports r.len 0 given.0 (sym given-long)
+  -- they stand at the front of the array
+  pub given-front : take e.len e.bytes ≡ given.0
+  given-front =
+      ap (take e.len) E.bytes ∙ ap (λ told. take e.len (padded most_ports 0 (given_in told))) given.1
+      ∙ padded-front most_ports e.len 0 given.0 (sym given-long)

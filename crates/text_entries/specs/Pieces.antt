@@ -6,38 +6,44 @@ use Rattle.std.proofs.Math.Option
 use Rattle.std.proofs.Math.Option.{Option, none, some}
 use Rattle.listing.specs.Limits.{most_ports}
 use Rattle.words.specs.Told.{Told, accepted, refused, nowhere, then}
-use Rattle.words.specs.Meaning.{outcome_told}
+use Rattle.words.specs.Meaning.{refusal_of}
 use Rattle.words.specs.Padded.{padded}
-use Rattle.text_numbers.specs.declared.Read.{Read}
-use Rattle.text_numbers.specs.declared.Read.TheVariants.{Number, Bad as Read-Bad}
-use Rattle.text_keys.specs.declared.Found.{Found}
-use Rattle.text_keys.specs.declared.Found.TheVariants.{At, Nowhere}
 use Rattle.text_entries.specs.Entries.{entries_in, entry_byte, bad_after, bad_entry}
 use Rattle.text_entries.specs.declared.Entries.{Entries}
 use Rattle.text_entries.specs.declared.Held.{Held}
 use Rattle.text_entries.specs.declared.Entry.{Entry}
 use Rattle.text_entries.specs.declared.Entry.TheVariants.{Last, More, Bad}
+use Rattle.words.specs.declared.Refusal.{Refusal}
+use Rattle.std.specs.declared.result.Result.{Result}
+use Rattle.std.specs.declared.result.Result.TheVariants.{Ok, Err}
+use Rattle.std.specs.declared.option.Option.{Option as Maybe}
+use Rattle.std.specs.declared.option.Option.TheVariants.{Some, None}
 
 -- the bytes that are given; none on a refusal
 abbrev pub given_in : Told (List ℕ) → List ℕ
 given_in (accepted p) = p
 given_in (refused k s) = []
 
--- r is what a text is told to be: it is judged so, and the array has the bytes that are given, and 0 beyond them
-pub record EntriesIs (told : Told (List ℕ)) (r : Entries) : Type 0 where
-  pub judged : outcome_told r.judged ≡ then told (λ p. accepted tt)
-  pub len : r.len ≡ length (given_in told)
-  pub bytes : r.bytes ≡ padded most_ports 0 (given_in told)
+-- e is what an accepted text gives: the array has the bytes that are given, and 0 beyond them
+pub record EntriesAre (told : Told (List ℕ)) (e : Entries) : Type 0 where
+  pub judged : accepted (tt {0}) ≡ then told (λ p. accepted tt)
+  pub len : e.len ≡ length (given_in told)
+  pub bytes : e.bytes ≡ padded most_ports 0 (given_in told)
+
+-- r is what a text is told to be: what it gives, or its refusal
+abbrev pub EntriesIs : Told (List ℕ) → Result Entries Refusal → Type 0
+EntriesIs told (Ok e) = EntriesAre told e
+EntriesIs told (Err f) = refusal_of f ≡ told
 
 -- the line that a text is told to be, by where it ends
-abbrev pub line_is : List ℕ → Found → Told (List ℕ)
-line_is t (At k) = accepted (take k t)
-line_is t Nowhere = refused 11 nowhere
+abbrev pub line_is : List ℕ → Maybe ℕ → Told (List ℕ)
+line_is t (Some k) = accepted (take k t)
+line_is t None = refused 11 nowhere
 
 -- it ends inside the text
-abbrev pub LineWithin : List ℕ → Found → Type 0
-LineWithin t (At k) = k < length t
-LineWithin t Nowhere = Unit {0}
+abbrev pub LineWithin : List ℕ → Maybe ℕ → Type 0
+LineWithin t (Some k) = k < length t
+LineWithin t None = Unit {0}
 
 -- ---- inner pieces
 
@@ -66,13 +72,13 @@ pub record EntryOf (most : ℕ) (t : List ℕ) (at : ℕ) (r : Entry) : Type 0 w
   pub within : EntryWithin at t r
 
 -- what was read as the last entry, and as one with others from a place on
-abbrev pub last_of : Read → Entry
-last_of (Number n) = Last n
-last_of Read-Bad = Bad
+abbrev pub last_of : Maybe ℕ → Entry
+last_of (Some n) = Last n
+last_of None = Bad
 
-abbrev pub more_of : ℕ → Read → Entry
-more_of next (Number n) = More n next
-more_of next Read-Bad = Bad
+abbrev pub more_of : ℕ → Maybe ℕ → Entry
+more_of next (Some n) = More n next
+more_of next None = Bad
 
 -- h holds the entries ns: whether there are more than places, and as many as there are places for
 pub record HeldIs (ns : List ℕ) (h : Held) : Type 0 where

@@ -1,21 +1,24 @@
 -- A text cut at a byte: what the parts are (`cut_parts`), and that a text put together from such parts is cut into them (`cut-joined`).
--- That a byte is not in a text is said by `first_of b t ≡ none`. At the end, the loop that looks for a byte.
+-- That a byte is not in a text is said by `first_of b t ≡ none`. At the end, that the library finds it.
 -- Assumes nothing.
 use mathlib.Core.Path.{◌≡◌, refl, sym, ap, ◌∙◌, subst}
-use mathlib.Core.Bool.{true≢false}
+use mathlib.Core.Bool.{cond, true≢false}
 use mathlib.Core.Logic.{◌≢◌}
 use mathlib.Core.List.{List, [], ◌∷◌, ◌++◌}
 use mathlib.Core.Option.{Option, none, some}
 use Prim.Native.Nat.{ℕ, zero, suc, ◌+◌, ◌-◌, ◌≤◌, ◌<◌}
-use native.Mathlib.Nat.{add-zero}
 use native.Mathlib.Numerals.{add-one}
 use native.Mathlib.Omega.{arith}
-use lib.ListN.{length, take, drop, get_or, length-append, length-take, length-drop, drop_of_length-le}
-use lib.Seq.{take_all, drop-cons, take-append_seam, drop-append-add}
-use borrow.Author.Tests.{eq-eqb, ne_eqb}
-use Rattle.listing.proofs.Numbers.{either, same?}
+use lib.Dec.{eqb, ltb}
+use lib.ListN.{length, take, drop, get_or, length-append, length-take, length-drop}
+use lib.Seq.{take_all, take-append_seam, drop-append-add}
+use borrow.Author.Tests.{eq-eqb, ne_eqb, lt-ltb, le-ltb}
+use Rattle.std.specs.List.{position, position_or_len}
+use Rattle.std.specs.declared.option.Option.TheVariants.{Some, None}
+use Rattle.listing.proofs.Numbers.{either, below?, same?}
 use Rattle.text_numbers.specs.Decimal.{digits_of}
 use Rattle.text_numbers.proofs.Shape.{digits_decimal}
+use Rattle.text_keys.specs.Answers.{found_is}
 use Rattle.text_keys.specs.Parts.{later, first_of, Parts, around, cut}
 
 -- ---- the first byte
@@ -115,40 +118,20 @@ first-inside b t k e =
 pub to_the_end : (t : List ℕ) (at : ℕ) → take (length t - at) (drop at t) ≡ drop at t
 to_the_end t at = take_all (length t - at) (drop at t) (omega (arith, length-drop at t))
 
--- ---- the loop that looks for b: none was found before `at`, so the bytes from there on decide
+-- ---- where the library finds it
 
--- k places later
-abbrev pub shifted : ℕ → Option ℕ → Option ℕ
-shifted k none = none
-shifted k (some j) = some (k + j)
+-- a place that the library gives in n bytes, and one place later in one byte more
+found-later : (k n : ℕ) → found_is (cond (ltb (1 + k) (suc n)) (Some (1 + k)) None) ≡ later (found_is (cond (ltb k n) (Some k) None))
+found-later k n =
+    either (below? k n)
+    (λ h. let h' : 1 + k < suc n = omega arith in rw (lt-ltb k n h, lt-ltb (1 + k) (suc n) h') (ap some (omega arith)))
+    (λ h. let h' : suc n ≤ 1 + k = omega arith in rw (le-ltb k n h, le-ltb (1 + k) (suc n) h'))
 
-module _ (b : ℕ) (t : List ℕ) where
-  -- before the first byte
-  pub look-first : first_of b t ≡ shifted 0 (first_of b (drop 0 t))
-  look-first = by (first_of b t)
-    where
-      by : (o : Option ℕ) → o ≡ shifted 0 o
-      by none = refl
-      by (some j) = ap some (omega arith)
-
-  module _ (at : ℕ) where
-    -- the byte at `at` is b
-    pub look-found : at < length t → get_or t at 0 ≡ b → shifted at (first_of b (drop at t)) ≡ some at
-    look-found h e = ap (λ r. shifted at (first_of b r)) (drop-cons t at 0 h) ∙ ap (shifted at) (first-here b (get_or t at 0) (drop (suc at) t) e) ∙ ap some (add-zero at)
-
-    -- it is not
-    pub look-on : at < length t → get_or t at 0 ≢ b → shifted at (first_of b (drop at t)) ≡ shifted (at + 1) (first_of b (drop (at + 1) t))
-    look-on h e =
-        ap (λ r. shifted at (first_of b r)) (drop-cons t at 0 h)
-        ∙ ap (shifted at) (first-later b (get_or t at 0) (drop (suc at) t) e)
-        ∙ ap (λ k. shifted at (later (first_of b (drop k t)))) (sym (add-one at))
-        ∙ one_more (first_of b (drop (at + 1) t))
-      where
-        one_more : (o : Option ℕ) → shifted at (later o) ≡ shifted (at + 1) o
-        one_more none = refl
-        one_more (some j) = ap some (omega arith)
-
-    -- no byte is left
-    pub look-end : length t ≤ at → shifted at (first_of b (drop at t)) ≡ none
-    unfolding first_of
-    look-end h = ap (λ r. shifted at (first_of b r)) (drop_of_length-le t h)
+-- the library's `position` of a byte b is the place of the first
+pub first_of_is : (b : ℕ) (t : List ℕ) → found_is (position (λ x. eqb x b) t) ≡ first_of b t
+unfolding first_of
+first_of_is b [] = refl
+first_of_is b (x ∷ t) =
+    either (same? x b)
+    (λ e. rw (eq-eqb x b e, lt-ltb 0 (length (x ∷ t)) (omega arith)))
+    (λ d. rw (ne_eqb x b d) (found-later (position_or_len (λ y. eqb y b) t) (length t) ∙ ap later (first_of_is b t)))

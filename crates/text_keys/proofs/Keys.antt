@@ -1,16 +1,17 @@
--- Keys: a text begins with a key exactly if it is the key and what follows it. At the end, the loop that compares the two.
+-- Keys: a text begins with a key exactly if it is the key and what follows it. At the end, that the library compares so.
 -- Assumes nothing.
 use mathlib.Core.Path.{◌≡◌, refl, sym, ap, ◌∙◌}
 use mathlib.Core.Bool.{Bool, true, false, true≢false, cond}
 use mathlib.Core.Logic.{◌≢◌}
 use mathlib.Core.List.{List, [], ◌∷◌, ◌++◌}
 use mathlib.Core.Option.{none, some}
-use Prim.Native.Nat.{ℕ, suc, ◌+◌, ◌≤◌, ◌<◌}
-use native.Mathlib.Numerals.{add-one}
+use Prim.Native.Nat.{ℕ, ◌≤◌, ◌<◌}
 use native.Mathlib.Omega.{arith}
-use lib.ListN.{length, drop, get_or, drop_of_length-le}
-use lib.Seq.{drop-cons, drop-append_seam}
+use lib.Dec.{eqb}
+use lib.ListN.{length, drop, take}
+use lib.Seq.{drop-append_seam}
 use borrow.Author.Tests.{eq-eqb, ne_eqb}
+use Rattle.std.specs.Cmp.Lexicographic.{pointwise}
 use Rattle.listing.proofs.Numbers.{either, below?, same?}
 use Rattle.text_keys.specs.Parts.{begins, after_key}
 
@@ -54,10 +55,10 @@ key-after key t v e = by (begins key t) refl e
     by true q e = begins-whole key t q ∙ ap (λ r. key ++ r) (cc)
     by false q e = absurd (true≢false (cc))
 
--- ---- the loop that compares: the bytes before `at` agree, so those from there on decide
+-- ---- room, and where the library compares
 
 -- a text that is shorter than the key does not begin with it
-pub begins-short : (key t : List ℕ) → length t < length key → begins key t ≡ false
+begins-short : (key t : List ℕ) → length t < length key → begins key t ≡ false
 unfolding begins
 begins-short [] t h = absurd (omega arith)
 begins-short (k ∷ key) [] h = refl
@@ -68,16 +69,12 @@ begins-short (k ∷ key) (x ∷ t) h =
 pub key-room : (key t : List ℕ) → begins key t ≡ true → length key ≤ length t
 key-room key t e = either (below? (length t) (length key)) (λ h. absurd (true≢false (sym e ∙ begins-short key t h))) (λ h. h)
 
-module _ (key t : List ℕ) (at : ℕ) where
-  -- the bytes at `at` agree
-  pub agree : at < length key → at < length t → get_or t at 0 ≡ get_or key at 0 → begins (drop at key) (drop at t) ≡ begins (drop (at + 1) key) (drop (at + 1) t)
-  agree h l e = rw (drop-cons key at 0 h, drop-cons t at 0 l, add-one at) (begins-same (get_or key at 0) (get_or t at 0) (drop (suc at) key) (drop (suc at) t) e)
-
-  -- they differ
-  pub differ : at < length key → at < length t → get_or t at 0 ≢ get_or key at 0 → begins (drop at key) (drop at t) ≡ false
-  differ h l e = rw (drop-cons key at 0 h, drop-cons t at 0 l) (begins-other (get_or key at 0) (get_or t at 0) (drop (suc at) key) (drop (suc at) t) e)
-
-  -- the key is at its end
-  pub agreed : length key ≤ at → begins (drop at key) (drop at t) ≡ true
-  unfolding begins
-  agreed h = ap (λ r. begins r (drop at t)) (drop_of_length-le key h)
+-- the library's `starts_with` says whether a text begins with a key
+pub begins_is : (key t : List ℕ) → pointwise eqb key (take (length key) t) ≡ begins key t
+unfolding begins
+begins_is [] t = refl
+begins_is (k ∷ key) [] = refl
+begins_is (k ∷ key) (x ∷ t) =
+    either (same? x k)
+    (λ e. rw (eq-eqb x k e, eq-eqb k x (sym e)) (begins_is key t))
+    (λ d. rw (ne_eqb x k d, ne_eqb k x (λ e. d (sym e))))

@@ -1,10 +1,9 @@
 -- What an answer says: a place, or none.
 -- Assumes nothing.
 use Rattle.std.specs.Prelude.{ℕ}
-use Rattle.std.proofs.Math.Option.{Option, none, some}
-use Rattle.text_keys.specs.declared.Found.{Found}
-use Rattle.text_keys.specs.declared.Found.TheVariants.{At, Nowhere}
+use Rattle.std.proofs.Math.Option.{Option}
+use Rattle.std.specs.declared.option.Option.{Option as Maybe}
+use Rattle.words.specs.Maybe.{option_is}
 
-abbrev pub found_is : Found → Option ℕ
-found_is (At k) = some k
-found_is Nowhere = none
+abbrev pub found_is : Maybe ℕ → Option ℕ
+found_is r = option_is r

@@ -1,6 +1,6 @@
 -- Nothing else meets the calls' contracts: two answers that say the same are the same.
 -- Assumes nothing.
-use mathlib.Core.Path.{◌≡◌, refl, sym, ap, ◌∙◌}
+use mathlib.Core.Path.{◌≡◌, sym, ap, ◌∙◌}
 use mathlib.Core.List.{List}
 use Prim.Native.Nat.{ℕ}
 use lib.ListN.{length}
@@ -8,32 +8,25 @@ use Rattle.listing.specs.Limits.{largest64}
 use Rattle.text_numbers.specs.Decimal.{digits_of, number_up_to}
 use Rattle.text_numbers.specs.Signed.{signed_up_to}
 use Rattle.text_numbers.specs.Answers.{read_is, signed_is, TextOf}
-use Rattle.text_numbers.specs.declared.Read.{Read}
-use Rattle.text_numbers.specs.declared.Read.TheVariants.{Number, Bad}
-use Rattle.text_numbers.specs.declared.ReadSigned.{ReadSigned}
-use Rattle.text_numbers.specs.declared.ReadSigned.TheVariants.{Number as Signed-Number, Bad as Signed-Bad}
 use Rattle.text_numbers.specs.declared.Text.{Text}
+use Rattle.std.specs.declared.option.Option.{Option}
+use Rattle.words.proofs.Once.{option-once}
+use Rattle.words.specs.declared.Signed.{Signed}
 
 -- two answers of a reader that say the same number are the same
-read-once : (r s : Read) → read_is r ≡ read_is s → r ≡ s
-read-once (Number m) (Number n) e = cc
-read-once (Number m) Bad e = cc
-read-once Bad (Number n) e = cc
-read-once Bad Bad e = refl
+read-once : (r s : Option ℕ) → read_is r ≡ read_is s → r ≡ s
+read-once = option-once
 
 -- and two that say the same signed number
-signed-once : (r s : ReadSigned) → signed_is r ≡ signed_is s → r ≡ s
-signed-once (Signed-Number m) (Signed-Number n) e = cc
-signed-once (Signed-Number m) Signed-Bad e = cc
-signed-once Signed-Bad (Signed-Number n) e = cc
-signed-once Signed-Bad Signed-Bad e = refl
+signed-once : (r s : Option Signed) → signed_is r ≡ signed_is s → r ≡ s
+signed-once = option-once
 
 -- one answer meets `read_number`'s contract
-pub only-read-number : (t : List ℕ) (r s : Read) → read_is r ≡ number_up_to largest64 t → read_is s ≡ number_up_to largest64 t → r ≡ s
+pub only-read-number : (t : List ℕ) (r s : Option ℕ) → read_is r ≡ number_up_to largest64 t → read_is s ≡ number_up_to largest64 t → r ≡ s
 only-read-number t r s e f = read-once r s (e ∙ sym f)
 
 -- one meets `read_signed`'s
-pub only-read-signed : (t : List ℕ) (r s : ReadSigned) → signed_is r ≡ signed_up_to largest64 t → signed_is s ≡ signed_up_to largest64 t → r ≡ s
+pub only-read-signed : (t : List ℕ) (r s : Option Signed) → signed_is r ≡ signed_up_to largest64 t → signed_is s ≡ signed_up_to largest64 t → r ≡ s
 only-read-signed t r s e f = signed-once r s (e ∙ sym f)
 
 -- one meets `places`'s

@@ -2,21 +2,22 @@
 -- Assumes nothing.
 use mathlib.Core.Path.{◌≡◌, refl, sym, ap, ◌∙◌}
 use mathlib.Core.Bool.{Bool, true, false, true≢false}
-use mathlib.Core.Logic.{◌≢◌, inl}
+use mathlib.Core.Logic.{inl}
 use mathlib.Core.List.{List, [], ◌∷◌}
 use mathlib.Core.Option.{Option, none, some}
-use Prim.Native.Nat.{ℕ, zero, suc, ◌-◌, ◌≤◌, ◌<◌}
+use Prim.Native.Nat.{ℕ, zero, suc, ◌≤◌, ◌<◌}
 use native.Mathlib.Omega.{arith}
 use borrow.Author.Tests.{eq-eqb, ne_eqb}
-use lib.ListN.{length, get_or, take, drop, length-drop}
-use lib.Seq.{take_all}
+use lib.ListN.{take, drop}
+use lib.Dec.{eqb}
 use Rattle.listing.proofs.Numbers.{either, same?}
 use Rattle.text_numbers.specs.Decimal.{digits_of, onward, number_in, up_to, number_up_to}
+use Rattle.std.specs.Cmp.Lexicographic.{pointwise}
 use Rattle.words.specs.Signs.{ahead, behind, Proper}
 use Rattle.words.specs.declared.Signed.{Signed}
 use Rattle.text_numbers.specs.Signed.{minus, signed_digits, plain, negative, signed_up_to}
 use Rattle.text_numbers.proofs.Inverse.{none-some, no_digit, onward-none}
-use Rattle.text_numbers.proofs.Limits.{none-up-to, number-up-to, digits-up-to}
+use Rattle.text_numbers.proofs.Limits.{none-up-to, number-empty, number-up-to, digits-up-to}
 
 -- ---- the sign
 
@@ -37,34 +38,17 @@ minus_number most t = ap (up_to most) (ap (λ o. onward o t) (no_digit minus (in
 
 -- ---- the first byte
 
--- a text without bytes is no signed number
-pub signed-empty : (most : ℕ) (t : List ℕ) → length t < 1 → signed_up_to most t ≡ none
-unfolding signed_up_to
-signed-empty most [] h = refl
-signed-empty most (b ∷ t) h = absurd (omega arith)
-
 -- with `-` first the rest is the magnitude
-pub signed-minus : (most : ℕ) (t : List ℕ) → 1 ≤ length t → get_or t 0 0 ≡ minus → signed_up_to most t ≡ negative (number_up_to most (drop 1 t))
+pub signed-minus : (most : ℕ) (t : List ℕ) → pointwise eqb (take 1 t) (minus ∷ []) ≡ true → signed_up_to most t ≡ negative (number_up_to most (drop 1 t))
 unfolding signed_up_to
-signed-minus most [] h e = absurd (omega arith)
-signed-minus most (b ∷ t) h e = rw (eq-eqb b minus e)
+signed-minus most [] e = absurd (true≢false (sym e))
+signed-minus most (b ∷ t) e = either (same? b minus) (λ s. rw (eq-eqb b minus s)) (λ d. absurd (true≢false (sym (rw (ne_eqb b minus d) at e))))
 
--- with any other byte first the whole is the magnitude
-pub signed-plain : (most : ℕ) (t : List ℕ) → 1 ≤ length t → get_or t 0 0 ≢ minus → signed_up_to most t ≡ plain (number_up_to most t)
+-- with any other byte first, or none, the whole is the magnitude
+pub signed-plain : (most : ℕ) (t : List ℕ) → pointwise eqb (take 1 t) (minus ∷ []) ≡ false → signed_up_to most t ≡ plain (number_up_to most t)
 unfolding signed_up_to
-signed-plain most [] h d = absurd (omega arith)
-signed-plain most (b ∷ t) h d = rw (ne_eqb b minus d)
-
--- what a reader makes of the magnitude o that it read after `-`
-pub read_behind : (most : ℕ) (t : List ℕ) (o : Option ℕ) → 1 ≤ length t → get_or t 0 0 ≡ minus → o ≡ number_up_to most (take (length t - 1) (drop 1 t))
-    → signed_up_to most t ≡ negative o
-read_behind most t o h e f =
-    let all : take (length t - 1) (drop 1 t) ≡ drop 1 t = take_all (length t - 1) (drop 1 t) (omega (arith, length-drop 1 t)) in
-    signed-minus most t h e ∙ ap negative (sym (f ∙ ap (number_up_to most) all))
-
--- and of the magnitude o that it read with no `-` before it
-pub read-ahead : (most : ℕ) (t : List ℕ) (o : Option ℕ) → 1 ≤ length t → get_or t 0 0 ≢ minus → o ≡ number_up_to most t → signed_up_to most t ≡ plain o
-read-ahead most t o h d f = signed-plain most t h d ∙ ap plain (sym f)
+signed-plain most [] e = ap plain (sym (number-empty most [] refl))
+signed-plain most (b ∷ t) e = either (same? b minus) (λ s. absurd (true≢false (rw (eq-eqb b minus s) at e))) (λ d. rw (ne_eqb b minus d))
 
 -- ---- both ways
 
@@ -114,5 +98,5 @@ unfolding signed_up_to
 digits-of-signed most [] s e = absurd (none-some s e)
 digits-of-signed most (b ∷ t) s e =
     either (same? b minus)
-    (λ m. rw m (spelt-negative most t (number_up_to most t) s refl (sym (signed-minus most (b ∷ t) (omega arith) m) ∙ e)))
-    (λ d. spelt-plain most (b ∷ t) (number_up_to most (b ∷ t)) s refl (sym (signed-plain most (b ∷ t) (omega arith) d) ∙ e))
+    (λ m. rw m (spelt-negative most t (number_up_to most t) s refl (rw (eq-eqb b minus m) at e)))
+    (λ d. spelt-plain most (b ∷ t) (number_up_to most (b ∷ t)) s refl (rw (ne_eqb b minus d) at e))

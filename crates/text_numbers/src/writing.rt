@@ -6,7 +6,7 @@ ghost use Rattle.text_numbers.specs.Answers.{TextOf};
 
 use crate::{MOST_DIGITS, Text};
 
-// How many digits n has.
+// How many digits n has. What is left is divided, so no range has its steps.
 pub fn places(n: u64) -> usize
     ensures { result ≡ length (digits_of n) }
 {
@@ -20,6 +20,7 @@ pub fn places(n: u64) -> usize
 }
 
 // The digits of n, k of them, at the front of an array of zeros. They are set from the last to the first: place 1 is the last.
+// Here too what is left is divided.
 fn spelt(n: u64, k: usize) -> [u8; MOST_DIGITS]
     requires { k ≡ length (digits_of n) }
     ensures { result ≡ padded most_digits 0 (digits_of n) }
@@ -40,9 +41,9 @@ fn spelt(n: u64, k: usize) -> [u8; MOST_DIGITS]
 pub fn digits(n: u64) -> Text
     ensures { TextOf n result }
 {
-    let k = places(n);
+    let len = places(n);
     Text {
-        bytes: spelt(n, k),
-        len: k,
+        bytes: spelt(n, len),
+        len,
     }
 }

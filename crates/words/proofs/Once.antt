@@ -7,7 +7,8 @@ use lib.ListN.{get_or}
 use Rattle.listing.specs.Orders.{swap, turn, nothing, one, two}
 use Rattle.listing.specs.Orders as list
 use Rattle.words.specs.Told.{Spot, nowhere, at_jack, at_jacks, at_line, at_bench}
-use Rattle.words.specs.Meaning.{jack_at, order_of, order_from, move_of, number_of, spot_of, refusal_of, outcome_told, numbered_told}
+use Rattle.words.specs.Meaning.{jack_at, order_of, order_from, move_of, number_of, spot_of, refusal_of, answer_told, outcome_told, numbered_told}
+use Rattle.words.specs.Maybe.{option_is}
 use Rattle.words.specs.declared.Order.{Order}
 use Rattle.words.specs.declared.Order.TheVariants.{Swap, Turn}
 use Rattle.words.specs.declared.Move.{Move}
@@ -17,10 +18,10 @@ use Rattle.words.specs.declared.Reason.TheVariants.{Ports, Room, Outside, Repeat
 use Rattle.words.specs.declared.Place.{Place}
 use Rattle.words.specs.declared.Place.TheVariants.{Nowhere, AtJack, AtJacks, AtLine}
 use Rattle.words.specs.declared.Refusal.{Refusal}
-use Rattle.words.specs.declared.Outcome.{Outcome}
-use Rattle.words.specs.declared.Outcome.TheVariants.{Accepted, Refused as Outcome-Refused}
-use Rattle.words.specs.declared.Numbered.{Numbered}
-use Rattle.words.specs.declared.Numbered.TheVariants.{Is, Refused as Numbered-Refused}
+use Rattle.std.specs.declared.result.Result.{Result}
+use Rattle.std.specs.declared.result.Result.TheVariants.{Ok, Err}
+use Rattle.std.specs.declared.option.Option.{Option as Maybe}
+use Rattle.std.specs.declared.option.Option.TheVariants.{Some, None}
 
 -- ---- reading a meaning back
 
@@ -98,14 +99,22 @@ refusal-once r s e =
     let where-at : r.place ≡ s.place = sym (place-back r.place) ∙ ap place spot ∙ place-back s.place in
     λ i. record { reason = why i; place = where-at i }
 
-pub outcome-once : (r s : Outcome) → outcome_told r ≡ outcome_told s → r ≡ s
-outcome-once Accepted Accepted e = refl
-outcome-once Accepted (Outcome-Refused g) e = cc
-outcome-once (Outcome-Refused f) Accepted e = cc
-outcome-once (Outcome-Refused f) (Outcome-Refused g) e = ap Outcome-Refused (refusal-once f g e)
+-- an answer, where what it gives is told once
+pub answer-once : {A B : Type 0} (f : A → B) → ((a b : A) → f a ≡ f b → a ≡ b) → (r s : Result A Refusal) → answer_told f r ≡ answer_told f s → r ≡ s
+answer-once f h (Ok a) (Ok b) e = ap Ok (h a b (cc))
+answer-once f h (Ok a) (Err g) e = cc
+answer-once f h (Err g) (Ok b) e = cc
+answer-once f h (Err g) (Err k) e = ap Err (refusal-once g k e)
 
-pub numbered-once : (r s : Numbered) → numbered_told r ≡ numbered_told s → r ≡ s
-numbered-once (Is a) (Is b) e = ap Is (cc)
-numbered-once (Is a) (Numbered-Refused g) e = cc
-numbered-once (Numbered-Refused f) (Is b) e = cc
-numbered-once (Numbered-Refused f) (Numbered-Refused g) e = ap Numbered-Refused (refusal-once f g e)
+pub outcome-once : (r s : Result (Unit {0}) Refusal) → outcome_told r ≡ outcome_told s → r ≡ s
+outcome-once = answer-once (λ u. u) (λ a b e. e)
+
+pub numbered-once : (r s : Result ℕ Refusal) → numbered_told r ≡ numbered_told s → r ≡ s
+numbered-once = answer-once (λ k. k) (λ a b e. e)
+
+-- and one that may be none
+pub option-once : {A : Type 0} (r s : Maybe A) → option_is r ≡ option_is s → r ≡ s
+option-once (Some a) (Some b) e = cc
+option-once (Some a) None e = cc
+option-once None (Some b) e = cc
+option-once None None e = refl

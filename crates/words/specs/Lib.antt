@@ -1,4 +1,5 @@
 pub mod Told
+pub mod Maybe
 pub mod Meaning
 pub mod Shape
 pub mod Signs

@@ -14,10 +14,8 @@ use Rattle.words.specs.declared.Reason.TheVariants.{Ports, Room, Outside, Repeat
 use Rattle.words.specs.declared.Place.{Place}
 use Rattle.words.specs.declared.Place.TheVariants.{Nowhere, AtJack, AtJacks, AtLine}
 use Rattle.words.specs.declared.Refusal.{Refusal}
-use Rattle.words.specs.declared.Outcome.{Outcome}
-use Rattle.words.specs.declared.Outcome.TheVariants.{Accepted, Refused as Outcome-Refused}
-use Rattle.words.specs.declared.Numbered.{Numbered}
-use Rattle.words.specs.declared.Numbered.TheVariants.{Is, Refused as Numbered-Refused}
+use Rattle.std.specs.declared.result.Result.{Result}
+use Rattle.std.specs.declared.result.Result.TheVariants.{Ok, Err}
 
 -- an order, by its jacks
 abbrev pub order_of : Order → list.Order
@@ -69,11 +67,14 @@ spot_of (AtLine l) = at_line l
 abbrev pub refusal_of : {A : Type 0} → Refusal → Told A
 refusal_of r = refused (number_of r.reason) (spot_of r.place)
 
--- what an answer without values tells, and one with a number
-abbrev pub outcome_told : Outcome → Told (Unit {0})
-outcome_told Accepted = accepted tt
-outcome_told (Outcome-Refused f) = refusal_of f
+-- what an answer tells: f of the value that it gives, or the refusal
+abbrev pub answer_told : {A B : Type 0} → (A → B) → Result A Refusal → Told B
+answer_told f (Ok a) = accepted (f a)
+answer_told f (Err r) = refusal_of r
 
-abbrev pub numbered_told : Numbered → Told ℕ
-numbered_told (Is k) = accepted k
-numbered_told (Numbered-Refused f) = refusal_of f
+-- an answer without values, and one with a number
+abbrev pub outcome_told : Result (Unit {0}) Refusal → Told (Unit {0})
+outcome_told r = answer_told (λ u. u) r
+
+abbrev pub numbered_told : Result ℕ Refusal → Told ℕ
+numbered_told r = answer_told (λ k. k) r

@@ -7,11 +7,11 @@ pub mod shapes;
 pub mod signs;
 
 // A jack of the panel, counted from 1.
-#[derive(Clone, Copy)]
+#[derive(Clone, Copy, PartialEq, Eq)]
 pub struct Jack(pub u8);
 
 // A port of the switch, counted from 1. A jack and a port of the same number are two things.
-#[derive(Clone, Copy)]
+#[derive(Clone, Copy, PartialEq, Eq)]
 pub struct Port(pub u8);
 
 // A movement order of the robot: two jacks exchanged, or three turned (the first gets what the second held, the second what the third held,
@@ -63,7 +63,7 @@ pub enum Reason {
 }
 
 // Where the fault is: at a jack of a pattern or panel, at a jack whose port an earlier jack, the second one, holds too, at a line of a plan, or at no place that
-// is said.
+// is said. (No Option of a place: each of the four has its numbers in one table.)
 #[derive(Clone, Copy)]
 pub enum Place {
     Nowhere,
@@ -92,18 +92,4 @@ pub struct Leg {
     pub start: u64,
     pub back: bool,
     pub run: u64,
-}
-
-// What a call answers that has nothing to give.
-#[derive(Clone, Copy)]
-pub enum Outcome {
-    Accepted,
-    Refused(Refusal),
-}
-
-// What a call answers that gives one number.
-#[derive(Clone, Copy)]
-pub enum Numbered {
-    Is(u64),
-    Refused(Refusal),
 }

@@ -11,8 +11,17 @@ pub fn nowhere(reason: Reason) -> Refusal
     ensures { result ≡ record { reason = reason; place = Nowhere } }
 {
     Refusal {
-        reason: reason,
+        reason,
         place: Place::Nowhere,
+    }
+}
+
+// A reason alone is a refusal at no place: `?` makes it so.
+impl From<Reason> for Refusal {
+    ghost from_gives = { λ reason refusal. refusal ≡ record { reason = reason; place = Nowhere } };
+
+    fn from(reason: Reason) -> Refusal {
+        nowhere(reason)
     }
 }
 
@@ -21,12 +30,12 @@ pub fn at_line(reason: Reason, line: u8) -> Refusal
     ensures { result ≡ record { reason = reason; place = AtLine line } }
 {
     Refusal {
-        reason: reason,
+        reason,
         place: Place::AtLine(line),
     }
 }
 
-// The number of a refusal.
+// The number of a refusal, as C has it.
 pub fn reason_number(reason: Reason) -> u8
     ensures { result ≡ number_of reason }
 {
@@ -51,14 +60,13 @@ pub fn reason_number(reason: Reason) -> u8
     }
 }
 
-// The number of a place: 0 where none is said.
+// The number of a place, as C has it: 0 where none is said.
 pub fn place_number(place: Place) -> u8
     ensures { result ≡ spot_number (spot_of place) }
 {
     match place {
         Place::Nowhere => 0,
-        Place::AtJack(j) => j.0,
-        Place::AtJacks(j, _) => j.0,
+        Place::AtJack(j) | Place::AtJacks(j, _) => j.0,
         Place::AtLine(l) => l,
     }
 }
@@ -68,9 +76,7 @@ pub fn earlier_number(place: Place) -> u8
     ensures { result ≡ earlier_number (spot_of place) }
 {
     match place {
-        Place::Nowhere => 0,
-        Place::AtJack(_) => 0,
         Place::AtJacks(_, i) => i.0,
-        Place::AtLine(_) => 0,
+        Place::AtLine(_) | Place::AtJack(_) | Place::Nowhere => 0,
     }
 }

@@ -8,16 +8,9 @@ use crate::Signed;
 pub fn by_sign(k: i64) -> Signed
     ensures { result ≡ by_sign k }
 {
-    if k < 0 {
-        Signed {
-            back: true,
-            magnitude: (-1 - k) as u64 + 1,
-        }
-    } else {
-        Signed {
-            back: false,
-            magnitude: k as u64,
-        }
+    Signed {
+        back: k < 0,
+        magnitude: k.unsigned_abs(),
     }
 }
 
@@ -26,9 +19,6 @@ pub fn with_sign(s: Signed) -> i64
     requires { s.magnitude < signed_limit }
     ensures { result ≡ with_sign s }
 {
-    if s.back {
-        0 - s.magnitude as i64
-    } else {
-        s.magnitude as i64
-    }
+    let magnitude = s.magnitude as i64;
+    if s.back { -magnitude } else { magnitude }
 }

@@ -3,5 +3,5 @@
 use Rattle.text_entries.proofs.Places.{held_more}
 use Rattle.text_entries.proofs.and_entry.Goals as goal
 
-pub returns-then-at-lt-LONGEST : goal.returns-then-at-lt-LONGEST
-returns-then-at-lt-LONGEST c ns H = held_more ns _ H _ _ c.entry_byte.ensures c.if-at-lt-LONGEST.true
+pub returns-then-held-lt-LONGEST : goal.returns-then-held-lt-LONGEST
+returns-then-held-lt-LONGEST c ns H = held_more ns _ H _ _ c.entry_byte.ensures c.if-held-lt-LONGEST.true

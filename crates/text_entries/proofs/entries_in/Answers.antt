@@ -1,16 +1,15 @@
 -- `text_entries::entries_in`: the entries read so far are held, and with those that the text from `at` on is they are all. Each turn passes a comma.
 -- Assumes nothing.
 use mathlib.Core.Path.{sym, ap, subst, ◌∙◌}
-use Prim.Native.Nat.{◌-◌}
 use Rattle.listing.specs.Limits.{largest64}
+use Rattle.words.specs.Meaning.{refusal_of}
 use Rattle.text_entries.specs.Pieces.{entry_is, EntryWithin, EntriesIs}
 use Rattle.text_entries.proofs.Places.{entry-bad, entry-last, entry_more}
 use Rattle.text_entries.proofs.entries_in.Goals as goal
 
 pub returns-in-Bad : goal.returns-in-Bad
 returns-in-Bad c =
-    subst (λ told. EntriesIs told c.refused.result)
-    (entry-bad _ _ _ c.loop-n.invariant.1 (sym (ap (entry_is largest64 _) c.in-Bad.is) ∙ c.entry_at.ensures.entries)) c.refused.ensures
+    ap refusal_of c.nowhere.ensures ∙ entry-bad _ _ _ c.loop-n.invariant.1 (sym (ap (entry_is largest64 _) c.in-Bad.is) ∙ c.entry_at.ensures.entries)
 
 pub returns-in-Last : goal.returns-in-Last
 returns-in-Last c =

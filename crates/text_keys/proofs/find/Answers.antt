@@ -1,17 +1,15 @@
--- `text_keys::find` gives the place of the first b: there is none before `at`, so the bytes from there on decide.
-use mathlib.Core.Path.{sym, ◌∙◌}
-use Prim.Native.Nat.{◌-◌}
-use borrow.Author.Rules.{rules}
-use Rattle.text_keys.proofs.Cuts.{look-found, look-on, look-end}
+-- `text_keys::find` gives the place of the first b, as the library's `position` finds it.
+use mathlib.Core.Path.{◌≡◌, ap, ◌∙◌}
+use lib.Dec.{eqb}
+use Rattle.std.proofs.Common.{rules, tests}
+use Rattle.std.proofs.lemmas.Iterator.{YieldsList-from_slice}
+use Rattle.std.proofs.lemmas.Iterator.Search.{position_from_yields_List}
+use Rattle.std.specs.List.{position}
+use Rattle.text_keys.specs.Answers.{found_is}
+use Rattle.text_keys.proofs.Cuts.{first_of_is}
 use Rattle.text_keys.proofs.find.Goals as goal
 
-pub returns-then-t-at : goal.returns-then-t-at
-returns-then-t-at c =
-    sym (c.loop-at.invariant ∙ look-found c.args.b c.args.t.now c.loop-at.at (search rules) c.if-t-at.true)
-
-pub loop-at-preserved : goal.loop-at-preserved
-loop-at-preserved c =
-    c.loop-at.invariant ∙ look-on c.args.b c.args.t.now c.loop-at.at (search rules) c.if-t-at.false
-
 pub returns : goal.returns
-returns c = sym (c.loop-at.invariant ∙ look-end c.args.b c.args.t.now c.loop-at.at c.loop-at-test.false)
+returns c =
+    let found : c.position.result ≡ position (λ x. eqb x c.args.b) c.args.t.now = position_from_yields_List (λ x. eqb x c.args.b) _ _ c.position.result c.position.ensures.ran (YieldsList-from_slice _ c.iter.ensures.rest) (λ x b q k. search (rules, tests)) in
+    ap found_is found ∙ first_of_is c.args.b c.args.t.now

@@ -1,7 +1,7 @@
 -- `text_numbers::writing::spelt` sets the digits of n from the last to the first. The digits of the rest have still to be set: put over the front of the array
 -- they always make the digits of n and then zeros.
 use mathlib.Core.Path.{◌≡◌}
-use Prim.Native.Nat.{◌+◌, ◌-◌, ◌≤◌}
+use Prim.Native.Nat.{◌+◌, ◌≤◌}
 use lib.ListN.{length}
 use Rattle.words.specs.Padded.{padded}
 use Rattle.text_numbers.specs.Decimal.{digits_of, most_digits}
