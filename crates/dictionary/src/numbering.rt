@@ -7,28 +7,22 @@ ghost use Rattle.dictionary_laws.specs.Calls.{dictionary_number_of, dictionary_p
 use dictionary_walk::walk::{number_of, put_numbered};
 use pattern_check::checking::check;
 use patterns::ranking::listed;
-use words::{Numbered, Outcome};
+use words::Refusal;
 
 // The dictionary number of a pattern.
-pub fn number(p: &[u8]) -> Numbered
+pub fn number(p: &[u8]) -> Result<u64, Refusal>
     ensures { numbered_told result ≡ dictionary_number_of most_ports p.now }
 {
-    match check(p) {
-        Outcome::Refused(f) => Numbered::Refused(f),
-        Outcome::Accepted => Numbered::Is(number_of(p)),
-    }
+    check(p)?;
+    Ok(number_of(p))
 }
 
 // The pattern of a dictionary number, for as many ports as the lent slice has bytes.
-pub fn numbered(number: u64, out: &mut [u8]) -> Outcome
+pub fn numbered(number: u64, out: &mut [u8]) -> Result<(), Refusal>
     ensures answer { outcome_told result ≡ dictionary_pattern_of most_ports number out.old }
     ensures bytes { out.new ≡ dictionary_pattern_bytes most_ports number out.old }
 {
-    match listed(out.len(), number) {
-        Outcome::Refused(f) => Outcome::Refused(f),
-        Outcome::Accepted => {
-            put_numbered(number, out);
-            Outcome::Accepted
-        }
-    }
+    listed(out.len(), number)?;
+    put_numbered(number, out);
+    Ok(())
 }

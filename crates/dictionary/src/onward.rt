@@ -9,7 +9,7 @@ ghost use Rattle.dictionary_laws.specs.Calls.{dictionary_next_of, dictionary_nex
 use dictionary_walk::walk::{number_of, put_numbered};
 use pattern_check::checking::check;
 use pattern_steps::counts::count_of;
-use words::Outcome;
+use words::Refusal;
 
 // The number after a number, and 0 after the last.
 fn number_after(n: u8, number: u64) -> u64
@@ -17,22 +17,19 @@ fn number_after(n: u8, number: u64) -> u64
     ensures { result ≡ next_rank n number }
 {
     if number + 1 == count_of(n) {
-        return 0;
+        0
+    } else {
+        number + 1
     }
-    number + 1
 }
 
 // The lent pattern becomes the next one in dictionary order.
-pub fn next(p: &mut [u8]) -> Outcome
+pub fn next(p: &mut [u8]) -> Result<(), Refusal>
     ensures answer { outcome_told result ≡ dictionary_next_of most_ports p.old }
     ensures bytes { p.new ≡ dictionary_next_bytes most_ports p.old }
 {
-    match check(p) {
-        Outcome::Refused(f) => Outcome::Refused(f),
-        Outcome::Accepted => {
-            let next = number_after(p.len() as u8, number_of(p));
-            put_numbered(next, p);
-            Outcome::Accepted
-        }
-    }
+    check(p)?;
+    let next = number_after(p.len() as u8, number_of(p));
+    put_numbered(next, p);
+    Ok(())
 }

@@ -100,3 +100,7 @@ module _ (most k : ℕ) (out : List ℕ) where
 -- room for the longest pattern has a place for each port
 pub room_for : (n k : ℕ) → accepted tt ≡ listed_of most_ports n k → length {A = ℕ} (take n (replicate most_ports 0)) ≡ n
 room_for n k e = length-take-le n (replicate most_ports 0) (listed-parts most_ports n k e).1
+
+-- so what is listed for so many ports is listed for that room
+pub room-listed : (n k : ℕ) → accepted tt ≡ listed_of most_ports n k → accepted tt ≡ listed_of most_ports (length {A = ℕ} (take n (replicate most_ports 0))) k
+room-listed n k e = e ∙ ap (λ (m : ℕ). listed_of most_ports m k) (sym (room_for n k e))

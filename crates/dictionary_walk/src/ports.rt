@@ -25,16 +25,11 @@ pub struct Choice {
 fn share_of(shares: Shares, jack: u8, port: u8, taken: bool) -> u64
     ensures { result ≡ cond taken 0 (worth shares.early shares.late jack port) }
 {
-    if taken {
+    let Shares { early, late } = shares;
+    if taken || port == jack {
         return 0;
     }
-    if port == jack {
-        return 0;
-    }
-    if jack < port {
-        return shares.late;
-    }
-    shares.early
+    if jack < port { late } else { early }
 }
 
 // What the free ports before a port come to, together.
@@ -43,10 +38,8 @@ pub fn pass_over(taken: &[bool; LONGEST], shares: Shares, jack: u8, port: u8) ->
     ensures { result ≡ total (worth shares.early shares.late jack) (frees taken.now 0 (port - 1)) }
 {
     let mut sum: u64 = 0;
-    let mut y: u8 = 0;
-    while y + 1 < port {
-        sum += share_of(shares, jack, y + 1, taken[y as usize]);
-        y += 1;
+    for y in 1..port {
+        sum += share_of(shares, jack, y, taken[(y - 1) as usize]);
     }
     sum
 }
@@ -58,17 +51,15 @@ pub fn choose(taken: &[bool; LONGEST], n: u8, shares: Shares, jack: u8, number: 
     ensures within { result.within ≡ within (worth shares.early shares.late jack) (frees taken.now 0 n) number }
 {
     let mut rest = number;
-    let mut y: u8 = 0;
-    while y + 1 < n {
-        let share = share_of(shares, jack, y + 1, taken[y as usize]);
+    for y in 1..n {
+        let share = share_of(shares, jack, y, taken[(y - 1) as usize]);
         if rest < share {
             return Choice {
-                port: y + 1,
+                port: y,
                 within: rest,
             };
         }
         rest -= share;
-        y += 1;
     }
     Choice {
         port: n,

@@ -13,11 +13,10 @@ fn add_jack(row: &mut [u64; LONGEST], m: u8)
     requires { (suc m < most_ports) × Row m row.old }
     ensures { Row (suc m) row.new }
 {
-    let mut k = (m + 1) as usize;
-    row[k] = count_of(m + 1);
-    while 0 < k {
-        row[k - 1] = row[k - 1] + row[k];
-        k -= 1;
+    let last = (m + 1) as usize;
+    row[last] = count_of(m + 1);
+    for k in (0..last).rev() {
+        row[k] += row[k + 1];
     }
 }
 
@@ -28,10 +27,8 @@ pub fn row_of(m: u8) -> [u64; LONGEST]
 {
     let mut row = [0u64; LONGEST];
     row[0] = 1;
-    let mut k: u8 = 0;
-    while k < m {
+    for k in 0..m {
         add_jack(&mut row, k);
-        k += 1;
     }
     row
 }
@@ -41,9 +38,7 @@ pub fn take_jack(row: &mut [u64; LONGEST], m: usize)
     requires { (m < most_ports) × Row m row.old }
     ensures { Row (before m) row.new }
 {
-    let mut k: usize = 0;
-    while k < m {
-        row[k] = row[k] - row[k + 1];
-        k += 1;
+    for k in 0..m {
+        row[k] -= row[k + 1];
     }
 }

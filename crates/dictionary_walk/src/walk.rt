@@ -15,15 +15,12 @@ use crate::ports::{Shares, choose, pass_over};
 use crate::rows::{row_of, take_jack};
 use words::limits::LONGEST;
 
-// One less, if something is so.
+// One less, if something is so. (What is so is data of the pattern.)
 fn less_if(so: bool, k: u8) -> u8
     requires { so ≡ true → 1 ≤ k }
     ensures { result ≡ cond so (before k) k }
 {
-    if so {
-        return k - 1;
-    }
-    k
+    if so { k - 1 } else { k }
 }
 
 // What a free port comes to, where `own` of the jacks after the next have their own port free.
@@ -68,13 +65,11 @@ pub fn number_of(p: &[u8]) -> u64
     let mut row = row_of(n - 1);
     let mut own = n;
     let mut sum: u64 = 0;
-    let mut at: u8 = 0;
-    while at < n {
+    for at in 0..n {
         let port = p[at as usize];
         let here = less_if(!taken[at as usize], own);
         sum += pass_over(&taken, shares_of(&row, here), at + 1, port);
         own = leave(&mut taken, &mut row, here, at, port, n);
-        at += 1;
     }
     sum
 }
@@ -89,13 +84,11 @@ pub fn put_numbered(number: u64, out: &mut [u8])
     let mut row = row_of(n - 1);
     let mut own = n;
     let mut rest = number;
-    let mut at: u8 = 0;
-    while at < n {
+    for at in 0..n {
         let here = less_if(!taken[at as usize], own);
         let choice = choose(&taken, n, shares_of(&row, here), at + 1, rest);
         out[at as usize] = choice.port;
         rest = choice.within;
         own = leave(&mut taken, &mut row, here, at, choice.port, n);
-        at += 1;
     }
 }

@@ -9,10 +9,6 @@ use Rattle.listing.specs.Numbers.{Among}
 use Rattle.listing.specs.Pattern.{entry}
 use Rattle.words.specs.Told.{Spot, nowhere, Told, accepted, refused, then}
 use Rattle.words.specs.Shape.{one_of}
-use Rattle.words.specs.Meaning.{refusal_of, outcome_told}
-use Rattle.words.specs.declared.Refusal.{Refusal}
-use Rattle.words.specs.declared.Outcome.{Outcome}
-use Rattle.words.specs.declared.Outcome.TheVariants.{Accepted, Refused}
 use Rattle.words.proofs.Shape.{one-of, among_one}
 use Rattle.pattern_check.specs.Faults.{seek}
 use Rattle.pattern_check.specs.Calls.{check_as}
@@ -47,19 +43,19 @@ module _ {A : Type 0} (most : ℕ) (p : List ℕ) (fits : Bool) where
 
 -- ---- a panel is asked for one of its numbers
 
-module _ (most : ℕ) (p : List ℕ) (x : ℕ) {r : Outcome} (e : outcome_told r ≡ may_ask most p x) where
+module _ (most : ℕ) (p : List ℕ) (x : ℕ) where
   -- where it may be, it is a panel that has the number
-  pub asked : r ≡ Accepted → Panel most p × Among (length p) x
-  asked is = let t = told-fits most p (one_of (length p) x) tt tt (rw is at e) in (t.0, one-of (length p) x t.1)
+  pub asked : accepted tt ≡ may_ask most p x → Panel most p × Among (length p) x
+  asked e = let t = told-fits most p (one_of (length p) x) tt tt e in (t.0, one-of (length p) x t.1)
 
   -- and answers
-  pub answered : {A : Type 0} (a : A) → r ≡ Accepted → accepted a ≡ on_panel most p (one_of (length p) x) a
-  answered a is = let t = asked is in fits_told most p (one_of (length p) x) a t.0 (among_one (length p) x t.1)
+  pub answered : {A : Type 0} (a : A) → accepted tt ≡ may_ask most p x → accepted a ≡ on_panel most p (one_of (length p) x) a
+  answered a e = let t = asked e in fits_told most p (one_of (length p) x) a t.0 (among_one (length p) x t.1)
 
   -- where it may not, the refusal is handed on whole
-  pub not-asked : {A : Type 0} (a : A) {f : Refusal} → r ≡ Refused f → refusal_of f ≡ on_panel most p (one_of (length p) x) a
+  pub not-asked : {A : Type 0} (a : A) {k : ℕ} {s : Spot} → refused k s ≡ may_ask most p x → refused k s ≡ on_panel most p (one_of (length p) x) a
   unfolding on_panel
-  not-asked a is = refusal-on (check_as false most p) (one_of (length p) x) a (rw is at e)
+  not-asked a e = refusal-on (check_as false most p) (one_of (length p) x) a e
 
 -- ---- the port at a jack
 

@@ -1,17 +1,15 @@
 -- What each answer of the panel tells: the paper's number and place of a refusal, or the values that the call gives.
 -- Assumes nothing.
 use Rattle.std.specs.Prelude.{ℕ}
-use Rattle.words.specs.Told.{Told, accepted}
-use Rattle.words.specs.Meaning.{refusal_of}
-use Rattle.panel.specs.declared.answers.Looked.{Looked}
-use Rattle.panel.specs.declared.answers.Looked.TheVariants.{Joined, Refused as Looked-Refused}
-use Rattle.panel.specs.declared.answers.Found.{Found}
-use Rattle.panel.specs.declared.answers.Found.TheVariants.{Held, Refused as Found-Refused}
+use Rattle.words.specs.Told.{Told}
+use Rattle.words.specs.Meaning.{answer_told}
+use Rattle.std.specs.declared.result.Result.{Result}
+use Rattle.words.specs.declared.Refusal.{Refusal}
+use Rattle.words.specs.declared.Port.{Port}
+use Rattle.words.specs.declared.Jack.{Jack}
 
-abbrev pub looked_told : Looked → Told ℕ
-looked_told (Joined v) = accepted v.0
-looked_told (Looked-Refused f) = refusal_of f
+abbrev pub looked_told : Result Port Refusal → Told ℕ
+looked_told r = answer_told (λ (v : Port). v.0) r
 
-abbrev pub found_told : Found → Told ℕ
-found_told (Held j) = accepted j.0
-found_told (Found-Refused f) = refusal_of f
+abbrev pub found_told : Result Jack Refusal → Told ℕ
+found_told r = answer_told (λ (j : Jack). j.0) r

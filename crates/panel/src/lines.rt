@@ -8,34 +8,31 @@ use pattern_carry::carry_order;
 use pattern_check::checking::check_panel;
 use words::refusals::nowhere;
 use words::shapes::{in_shape, one_of};
-use words::{Line, Outcome, Reason};
+use words::{Line, Reason, Refusal};
 
 // A line on the panel: an order is carried out; a seat, a mark and the end leave the panel as it is.
-pub fn carry(panel: &mut [u8], line: Line) -> Outcome
+pub fn carry(panel: &mut [u8], line: Line) -> Result<(), Refusal>
     ensures answer { outcome_told result ≡ carry_of most_ports line panel.old }
     ensures bytes { panel.new ≡ carry_bytes most_ports line panel.old }
 {
-    match check_panel(panel) {
-        Outcome::Refused(f) => Outcome::Refused(f),
-        Outcome::Accepted => {
-            let n = panel.len() as u8;
-            match line {
-                Line::Movement(o) => {
-                    if in_shape(n, o) {
-                        carry_order(o, panel);
-                        return Outcome::Accepted;
-                    }
-                    Outcome::Refused(nowhere(Reason::Shape))
-                }
-                Line::Seat(jack) => {
-                    if one_of(n, jack.0) {
-                        return Outcome::Accepted;
-                    }
-                    Outcome::Refused(nowhere(Reason::Shape))
-                }
-                Line::Mark(_, _) => Outcome::Accepted,
-                Line::End(_) => Outcome::Accepted,
+    check_panel(panel)?;
+    let n = panel.len() as u8;
+    match line {
+        Line::Movement(o) => {
+            if in_shape(n, o) {
+                carry_order(o, panel);
+                Ok(())
+            } else {
+                Err(nowhere(Reason::Shape))
             }
         }
+        Line::Seat(jack) => {
+            if one_of(n, jack.0) {
+                Ok(())
+            } else {
+                Err(nowhere(Reason::Shape))
+            }
+        }
+        Line::Mark(_, _) | Line::End(_) => Ok(()),
     }
 }

@@ -15,11 +15,7 @@ fn swap_entries(p: &mut [u8], a: Jack, b: Jack)
     requires { Swappable p.old a.0 b.0 }
     ensures { p.new ≡ carry (swap a.0 b.0) p.old }
 {
-    let x = (a.0 - 1) as usize;
-    let y = (b.0 - 1) as usize;
-    let held = p[x];
-    p[x] = p[y];
-    p[y] = held;
+    p.swap((a.0 - 1) as usize, (b.0 - 1) as usize);
 }
 
 // Two swaps, one after the other.

@@ -1,6 +1,6 @@
 // Panels of n jacks in arrays: the port at a jack and the jack that holds a port, the way from a lent slice, where two panels differ, a panel after an
 // order, and the panel at home.
-ghost use Rattle.std.specs.Prelude.{◌≡◌, ◌++◌, suc, ◌≤◌, length, take, drop};
+ghost use Rattle.std.specs.Prelude.{◌≡◌, ◌==◌, ◌++◌, suc, ◌≤◌, length, take, drop, position};
 ghost use Rattle.listing.specs.Numbers.{Among, is};
 ghost use Rattle.listing.specs.Pattern.{entry};
 ghost use Rattle.listing.specs.Ends.{home};
@@ -20,8 +20,14 @@ pub fn port_at(p: [u8; LONGEST], n: u8, j: u8) -> u8
     requires { (n ≤ most_ports) × Among n j }
     ensures { result ≡ entry (take n p) j }
 {
-    let at = (j - 1) as usize;
-    p[at]
+    p[(j - 1) as usize]
+}
+
+// The place of the first jack that holds the port, jack 1 at place 0.
+fn place_of(panel: &[u8], port: Port) -> Option<usize>
+    ensures { result ≡ position (λ x. x == port.0) panel.now }
+{
+    panel.iter().position(|held| *held == port.0)
 }
 
 // The first jack that holds the port, and jack 0 if none does.
@@ -29,14 +35,10 @@ pub fn holder(panel: &[u8], port: Port) -> Jack
     requires { length panel.now ≤ most_ports }
     ensures { result.0 ≡ seek panel.now port.0 1 (length panel.now) }
 {
-    let mut at: usize = 0;
-    while at < panel.len() {
-        if panel[at] == port.0 {
-            return Jack((at + 1) as u8);
-        }
-        at += 1;
+    match place_of(panel, port) {
+        Some(at) => Jack((at + 1) as u8),
+        None => Jack(0),
     }
-    Jack(0)
 }
 
 // The lent ports at the front of an array, 0 beyond them.
@@ -45,11 +47,7 @@ pub fn load(p: &[u8]) -> [u8; LONGEST]
     ensures { result ≡ padded most_ports 0 p.now }
 {
     let mut t = [0u8; LONGEST];
-    let mut j: usize = 0;
-    while j < p.len() {
-        t[j] = p[j];
-        j += 1;
-    }
+    t[..p.len()].copy_from_slice(p);
     t
 }
 
@@ -58,13 +56,10 @@ pub fn first_wrong(n: u8, p: [u8; LONGEST], q: [u8; LONGEST]) -> u8
     requires { n ≤ most_ports }
     ensures { result ≡ wrong_from n 1 (take n p) (take n q) }
 {
-    let end = n as usize;
-    let mut at: usize = 0;
-    while at < end {
+    for at in 0..n as usize {
         if p[at] != q[at] {
             return (at + 1) as u8;
         }
-        at += 1;
     }
     0
 }
@@ -74,9 +69,8 @@ pub fn after_order(n: u8, p: [u8; LONGEST], o: Order) -> [u8; LONGEST]
     requires { (n ≤ most_ports) × InShape n (order_of o) }
     ensures { result ≡ carry (order_of o) (take n p) ++ drop n p }
 {
-    let end = n as usize;
     let mut after = p;
-    carry_order(o, &mut after[..end]);
+    carry_order(o, &mut after[..n as usize]);
     after
 }
 
@@ -85,10 +79,7 @@ fn home_port(n: u8, j: u8) -> u8
     requires { j ≤ most_ports }
     ensures { result ≡ is j n 1 (suc j) }
 {
-    if j == n {
-        return 1;
-    }
-    j + 1
+    if j == n { 1 } else { j + 1 }
 }
 
 // The panel at home, 0 beyond the ports.
@@ -97,11 +88,8 @@ pub fn home_panel(n: u8) -> [u8; LONGEST]
     ensures { result ≡ padded most_ports 0 (home n) }
 {
     let mut panel = [0u8; LONGEST];
-    let mut j: u8 = 0;
-    while j < n {
-        let at = j as usize;
-        panel[at] = home_port(n, j + 1);
-        j += 1;
+    for j in 0..n {
+        panel[j as usize] = home_port(n, j + 1);
     }
     panel
 }

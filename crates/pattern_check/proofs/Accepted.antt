@@ -4,9 +4,7 @@ use mathlib.Core.Path.{◌≡◌, refl, sym}
 use mathlib.Core.Bool.{Bool, true, false, cond, true≢false}
 use mathlib.Core.List.{List}
 use Prim.Native.Nat.{ℕ, ◌≤◌}
-use lib.Dec.{leb}
 use lib.ListN.{length}
-use borrow.Author.Tests.{leb-true}
 use Rattle.listing.specs.Pattern.{Permutation, Derangement}
 use Rattle.words.specs.Told.{nowhere, Told, accepted, refused}
 use Rattle.pattern_check.specs.Faults.{Fault, sound, outside, repeated, own_jack, fault_of, fault_told}

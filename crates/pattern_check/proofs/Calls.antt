@@ -7,7 +7,7 @@ use Prim.Native.Nat.{ℕ, ◌≤◌, ◌<◌}
 use lib.Dec.{leb}
 use lib.ListN.{length}
 use borrow.Author.Tests.{le-leb, lt-leb, leb-true}
-use Rattle.words.specs.Told.{Told, refused, nowhere}
+use Rattle.words.specs.Told.{Spot, Told, accepted, refused, nowhere}
 use Rattle.pattern_check.specs.Faults.{Fault, fault_of, fault_told}
 use Rattle.pattern_check.specs.Calls.{in_size, sized, check_as}
 
@@ -46,6 +46,24 @@ module _ {A : Type 0} (most n : ℕ) (t : Told A) where
 
   pub in-size : {r : Bool} → r ≡ in_size most n → not r ≡ false → sized most n t ≡ t
   in-size e h = let size = size-within most n e h in fits size.0 size.1
+
+-- what the test of the size alone tells: nothing of 2 to `most` ports
+pub size-accepted : (most n : ℕ) → accepted (tt {0}) ≡ sized most n (accepted tt) → (2 ≤ n) × (n ≤ most)
+unfolding sized
+size-accepted most n e = size-within most n refl (ap not (inside (in_size most n) e))
+  where
+    inside : (b : Bool) → accepted (tt {0}) ≡ cond b (accepted tt) (refused 1 nowhere) → b ≡ true
+    inside true e = refl
+    inside false e = cc
+
+-- and its refusal is that of a call that needs the size
+pub size-refused : {A : Type 0} (most n : ℕ) (t : Told A) (k : ℕ) (s : Spot) → refused k s ≡ sized most n (accepted (tt {0})) → refused k s ≡ sized most n t
+unfolding sized
+size-refused most n t k s e = outside (in_size most n) e
+  where
+    outside : (b : Bool) → refused k s ≡ cond b (accepted (tt {0})) (refused 1 nowhere) → refused k s ≡ cond b t (refused 1 nowhere)
+    outside true e = cc
+    outside false e = let number : k ≡ 1 = cc in let place : s ≡ nowhere = cc in rw (number, place)
 
 pub few-out : (most n : ℕ) → n < 2 → false ≡ in_size most n
 unfolding in_size

@@ -3,6 +3,7 @@ pub mod Sound
 pub mod Alone
 pub mod Jacks
 pub mod Tried
+pub mod Passed
 pub mod Calls
 pub mod Accepted
 pub mod Only

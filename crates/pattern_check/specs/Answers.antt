@@ -3,10 +3,17 @@
 use Rattle.pattern_check.specs.Faults.{sound, outside, repeated, own_jack}
 use Rattle.pattern_check.specs.Faults as faults
 use Rattle.pattern_check.specs.declared.answers.Fault.{Fault}
-use Rattle.pattern_check.specs.declared.answers.Fault.TheVariants.{Sound, Outside, Repeated, OwnJack}
+use Rattle.pattern_check.specs.declared.answers.Fault.TheVariants.{Outside, Repeated, OwnJack}
+use Rattle.std.specs.declared.result.Result.{Result}
+use Rattle.std.specs.declared.result.Result.TheVariants.{Ok, Err}
 
-abbrev pub fault_is : Fault → faults.Fault
-fault_is Sound = sound
-fault_is (Outside j) = outside j.0
-fault_is (Repeated j k) = repeated j.0 k.0
-fault_is (OwnJack j) = own_jack j.0
+-- a fault that is found
+abbrev pub found_is : Fault → faults.Fault
+found_is (Outside j) = outside j.0
+found_is (Repeated j k) = repeated j.0 k.0
+found_is (OwnJack j) = own_jack j.0
+
+-- the first fault, or none
+abbrev pub fault_is : Result (Unit {0}) Fault → faults.Fault
+fault_is (Ok u) = sound
+fault_is (Err f) = found_is f

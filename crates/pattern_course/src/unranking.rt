@@ -18,10 +18,10 @@ fn origin(n: u8, rank: u64) -> Origin
     ensures { result ≡ origin_of n rank }
 {
     let parts = parts_of(n);
-    let size = parts.0 + parts.1;
+    let size = parts.by_a + parts.by_b;
     let i = (rank / size + 1) as u8;
     let u = turned_place(is_odd(i), size, rank % size);
-    if u < parts.0 {
+    if u < parts.by_a {
         Origin::ByA(i, u)
     } else {
         Origin::ByB(i, from_end(size, u))
@@ -36,6 +36,7 @@ fn course_of(n: u8, rank: u64) -> [u8; LONGEST]
     let mut levels = [0u8; LONGEST];
     let mut m = n;
     let mut left = rank;
+    // a level takes one jack or two
     while 0 < m {
         let last = (m - 1) as usize;
         match origin(m, left) {
@@ -63,6 +64,7 @@ fn put_course(levels: [u8; LONGEST], out: &mut [u8])
 {
     let n = out.len() as u8;
     let mut m: u8 = 0;
+    // a step makes one jack or two
     while m < n {
         let at = m as usize;
         if levels[at] == 0 {

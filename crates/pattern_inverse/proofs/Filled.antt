@@ -3,27 +3,18 @@
 -- Assumes nothing.
 use mathlib.Core.Path.{◌≡◌, refl, sym, ap, ◌∙◌}
 use mathlib.Core.Logic.{◌≢◌}
-use mathlib.Core.Bool.{Bool, true, false, true≢false}
 use mathlib.Core.List.{List}
-use Prim.Native.Nat.{ℕ, zero, suc, ◌+◌, ◌-◌, ◌≤◌, ◌<◌}
+use Prim.Native.Nat.{ℕ, suc, ◌+◌, ◌-◌, ◌≤◌, ◌<◌}
 use native.Mathlib.Numerals.{add-one}
 use native.Mathlib.Omega.{arith}
-use lib.ListN.{length, take, get_or, set, replicate}
+use lib.ListN.{length, take, get_or, set}
 use lib.Seq.{length-take-le}
 use Rattle.listing.specs.Numbers.{Among}
 use Rattle.listing.specs.Pattern.{entry, Derangement}
 use Rattle.listing.proofs.Numbers.{either, same?}
 use Rattle.listing.proofs.Panels.{same_entries, entry-below, entry-take, entry-same, entry_other}
-use Rattle.listing_course.specs.InPlace.{Inverted}
+use Rattle.listing_course.specs.InPlace.{Inverted, WithInverse}
 use Rattle.listing_course.proofs.Inverse.{inverted-on, inverted-end}
-use Rattle.pattern_inverse.specs.Judged.{Blank, Judged}
-
--- an array of zeros has nothing in it
-pub blank-zeros : (k : ℕ) → Blank (replicate k 0)
-blank-zeros k zero = refl
-blank-zeros zero (suc v) = refl
-blank-zeros (suc k) (suc zero) = refl
-blank-zeros (suc k) (suc (suc v)) = blank-zeros k (suc v)
 
 -- the first j jacks of p hold ports, none of them its own; the array a has these ports, and the array b their jacks and no other
 pub record Filled (p a b : List ℕ) (j : ℕ) : Type 0 where
@@ -34,17 +25,6 @@ pub record Filled (p a b : List ℕ) (j : ℕ) : Type 0 where
   pub only : (v : ℕ) → entry b v ≢ 0 → Among j (entry b v) × (entry p (entry b v) ≡ v)
 
 -- ---- yes
-
--- at first no jack is done
-pub filled_none : (p a b : List ℕ) → Blank b → Filled p a b 0
-filled_none p a b none =
-    record {
-      ports = λ x h. absurd (omega arith);
-      moved = λ x h. absurd (omega arith);
-      copied = λ x h. absurd (omega arith);
-      inverted = λ x h. absurd (omega arith);
-      only = λ v d. absurd (d (none v));
-    }
 
 -- jack j + 1, whose port k + 1 has no jack yet
 filled-one : (p a b : List ℕ) (j k : ℕ) → Filled p a b j → j < length a → k < length p → length p ≤ length b → entry p (suc j) ≡ suc k → k ≢ j
@@ -85,7 +65,7 @@ filled-pattern p a b F =
     }
 
 -- which the copy begins with
-filled-front : (p a b : List ℕ) → length p ≤ length a → Filled p a b (length p) → take (length p) a ≡ p
+pub filled-front : (p a b : List ℕ) → length p ≤ length a → Filled p a b (length p) → take (length p) a ≡ p
 filled-front p a b place F =
     let n = length p in
     let long = length-take-le n a place in
@@ -93,38 +73,30 @@ filled-front p a b place F =
     let k : Among n j = omega arith in
     entry-take n a j k.1 ∙ F.copied j k)
 
--- and so it is taken in
-pub judged-yes : (p a b : List ℕ) → length p ≤ length a → length p ≤ length b → Filled p a b (length p) → Judged true p a b
-judged-yes p a b place room F =
+-- with its inverse
+pub filled-inverse : (p a b : List ℕ) → length p ≤ length a → length p ≤ length b → Filled p a b (length p) → WithInverse (length p) a b
+filled-inverse p a b place room F =
     let f = filled-front p a b place F in
-    record {
-      accepted = λ t. (f, inverted-end a b (rw f (filled-pattern p a b F)) (rw f F.inverted) room);
-      refused = λ t. absurd (true≢false t);
-    }
+    inverted-end a b (rw f (filled-pattern p a b F)) (rw f F.inverted) room
 
 -- ---- no
 
--- whatever the arrays have
-judged-no : (p a b : List ℕ) → (Derangement (length p) p → ⊥) → Judged false p a b
-judged-no p a b none = record { accepted = λ t. absurd (true≢false (sym t)); refused = λ t. none }
-
-module _ (p a b : List ℕ) (at : ℕ) (here : at < length p) where
+module _ (p : List ℕ) (at : ℕ) (here : at < length p) where
   -- a port below 1
-  pub no-below : get_or p at 0 < 1 → Judged false p a b
-  no-below h = judged-no p a b (λ D. omega (arith, D.permutation.ports (suc at) (omega arith)))
+  pub no-below : get_or p at 0 < 1 → Derangement (length p) p → ⊥
+  no-below h D = omega (arith, D.permutation.ports (suc at) (omega arith))
 
   -- a port above the last
-  pub no_above : length p < get_or p at 0 → Judged false p a b
-  no_above h = judged-no p a b (λ D. omega (arith, D.permutation.ports (suc at) (omega arith)))
+  pub no_above : length p < get_or p at 0 → Derangement (length p) p → ⊥
+  no_above h D = omega (arith, D.permutation.ports (suc at) (omega arith))
 
   -- a port at its own jack
-  pub no_own : get_or p at 0 ≡ at + 1 → Judged false p a b
-  no_own e = judged-no p a b (λ D. D.moved (suc at) (omega arith) (e ∙ add-one at))
+  pub no_own : get_or p at 0 ≡ at + 1 → Derangement (length p) p → ⊥
+  no_own e D = D.moved (suc at) (omega arith) (e ∙ add-one at)
 
   -- a port that has a jack already
-  pub no-again : Filled p a b at → 1 ≤ get_or p at 0 → get_or b (get_or p at 0 - 1) 0 ≢ 0 → Judged false p a b
-  no-again F low d =
-      judged-no p a b (λ D.
+  pub no-again : (a b : List ℕ) → Filled p a b at → 1 ≤ get_or p at 0 → get_or b (get_or p at 0 - 1) 0 ≢ 0 → Derangement (length p) p → ⊥
+  no-again a b F low d D =
       let o = F.only (get_or p at 0) (λ z. d (entry-below b (get_or p at 0) low ∙ z)) in
       let same = D.permutation.apart (entry b (get_or p at 0)) (suc at) (omega arith) (omega arith) o.1 in
-      omega arith)
+      omega arith

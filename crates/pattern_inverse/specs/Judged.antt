@@ -1,18 +1,18 @@
--- What one pass over a list of ports says, with the arrays that it leaves.
+-- What one pass over a list of ports says, with the working copy that it leaves.
 -- Assumes nothing.
-use Rattle.std.specs.Prelude.{ℕ, ◌≡◌, Bool, true, false, List, length, take}
-use Rattle.listing.specs.Pattern.{entry, Derangement}
-use Rattle.listing_course.specs.InPlace.{WithInverse}
+use Rattle.std.specs.Prelude.{ℕ, ◌≡◌, List, Option, Some, None, length, take}
+use Rattle.listing.specs.Pattern.{Derangement}
+use Rattle.pattern_inverse.specs.declared.types.Taken.{Taken}
 
--- nothing is in the array yet
-abbrev pub Blank : List ℕ → Type 0
-Blank b = (v : ℕ) → entry b v ≡ 0
+-- the pattern that a working copy begins with
+abbrev pub pattern_of : Taken → List ℕ
+pattern_of t = take t.ports t.copy
 
--- the pattern p is taken in: the array a begins with it, and the array b with its inverse
-abbrev pub TakenIn : List ℕ → List ℕ → List ℕ → Type 0
-TakenIn p a b = (take (length p) a ≡ p) × WithInverse (length p) a b
+-- the pattern p is taken in: the copy begins with it, and the inverse with its inverse
+abbrev pub TakenIn : List ℕ → Taken → Type 0
+TakenIn p t = (t.ports ≡ length p) × (pattern_of t ≡ p)
 
--- yes for a pattern, which the arrays have taken in; no for what is none
-pub record Judged (r : Bool) (p a b : List ℕ) : Type 0 where
-  pub accepted : r ≡ true → TakenIn p a b
-  pub refused : r ≡ false → Derangement (length p) p → ⊥
+-- a pattern is taken in, and what is none is not
+abbrev pub Judged : List ℕ → Option Taken → Type 0
+Judged p (Some t) = TakenIn p t
+Judged p None = Derangement (length p) p → ⊥

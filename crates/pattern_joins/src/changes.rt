@@ -13,12 +13,8 @@ pub fn inverse_of(m: Move) -> Move
     ensures { move_of result ≡ inverse (move_of m) }
 {
     match m {
-        Move::Nothing => m,
-        Move::One(o) => match o {
-            Order::Swap(_, _) => m,
-            Order::Turn(a, b, c) => Move::One(Order::Turn(a, c, b)),
-        },
-        Move::Two(_, _, _, _) => m,
+        Move::One(Order::Turn(a, b, c)) => Move::One(Order::Turn(a, c, b)),
+        _ => m,
     }
 }
 

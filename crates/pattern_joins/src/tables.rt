@@ -86,17 +86,12 @@ pub fn join(n: u8, i: u8) -> Move
     if n < FEWEST_IN_EIGHT {
         return join_of_four(i);
     }
-    match i {
-        1 => first_join(n),
-        _ => {
-            let left = n - i;
-            match left {
-                1 => last_join(n),
-                2 => Move::One(Order::Turn(Jack(n - 4), Jack(n - 2), Jack(n - 1))),
-                3 => Move::One(Order::Turn(Jack(n - 4), Jack(n - 2), Jack(n - 3))),
-                _ => Move::Two(Jack(i - 1), Jack(i), Jack(n - 3), Jack(n - 2)),
-            }
-        }
+    match (i, n - i) {
+        (1, _) => first_join(n),
+        (_, 1) => last_join(n),
+        (_, 2) => Move::One(Order::Turn(Jack(n - 4), Jack(n - 2), Jack(n - 1))),
+        (_, 3) => Move::One(Order::Turn(Jack(n - 4), Jack(n - 2), Jack(n - 3))),
+        _ => Move::Two(Jack(i - 1), Jack(i), Jack(n - 3), Jack(n - 2)),
     }
 }
 
@@ -106,9 +101,8 @@ pub fn closing(n: u8) -> Move
     ensures { move_of result ≡ closing n }
 {
     if n == FEWEST_PORTS {
-        return Move::Nothing;
-    }
-    if is_odd(n) {
+        Move::Nothing
+    } else if is_odd(n) {
         Move::One(Order::Turn(Jack(n - 2), Jack(n), Jack(n - 1)))
     } else {
         Move::One(Order::Swap(Jack(n - 2), Jack(n)))

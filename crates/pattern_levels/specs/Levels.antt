@@ -1,10 +1,10 @@
 -- One level of a pattern: the step that it came by, and the shorter pattern.
 -- Assumes nothing.
-use Rattle.std.specs.Prelude.{ℕ, ◌≡◌, List, length, take}
+use Rattle.std.specs.Prelude.{ℕ, ◌≡◌}
 use Rattle.listing.specs.Pattern.{entry}
 use Rattle.listing.specs.Steps.{Letter, by_a, by_b, shorter, back, letter}
-use Rattle.listing.specs.Limits.{most_ports}
-use Rattle.listing_course.specs.InPlace.{WithInverse}
+use Rattle.pattern_inverse.specs.Judged.{pattern_of}
+use Rattle.pattern_inverse.specs.declared.types.Taken.{Taken}
 use Rattle.pattern_levels.specs.declared.types.Came.{Came}
 use Rattle.pattern_levels.specs.declared.types.Came.TheVariants.{ByA, ByB}
 
@@ -23,10 +23,8 @@ abbrev pub end_of : Came → ℕ
 end_of (ByA i) = i
 end_of (ByB i) = i
 
--- one level taken off the pattern t of n ports: the step that it came by, and in the arrays a and b the shorter pattern, with its inverse
-pub record Peeled (n : ℕ) (t : List ℕ) (c : Came) (a b : List ℕ) : Type 0 where
-  pub came : c ≡ came_of (letter n t) (entry t n)
-  pub long : length a ≡ most_ports
-  pub long-back : length b ≡ most_ports
-  pub shown : take (shorter (letter_of c) n) a ≡ back (letter_of c) n t
-  pub arrays : WithInverse (shorter (letter_of c) n) a b
+-- one level taken off a pattern: the step that it came by, and the shorter pattern is left
+pub record Peeled (before : Taken) (c : Came) (after : Taken) : Type 0 where
+  pub came : c ≡ came_of (letter before.ports (pattern_of before)) (entry (pattern_of before) before.ports)
+  pub left : after.ports ≡ shorter (letter_of c) before.ports
+  pub shown : pattern_of after ≡ back (letter_of c) before.ports (pattern_of before)

@@ -1,30 +1,31 @@
-// A pattern taken apart in place, with its inverse, which has at each port its jack: jack 1 and port 1 first.
-ghost use Rattle.std.specs.Prelude.{◌≡◌, ◌≤◌, length, take};
-ghost use Rattle.listing.specs.Limits.{most_ports};
-ghost use Rattle.listing_course.specs.InPlace.{WithInverse};
+// A pattern taken apart in place, with its inverse.
+ghost use Rattle.std.specs.Prelude.{◌≤◌};
 ghost use Rattle.pattern_levels.specs.Levels.{Peeled};
 
 use crate::types::Came;
+use pattern_inverse::types::Taken;
 use pattern_steps::steps::back_b;
-use words::limits::LONGEST;
 
-// One level taken off the pattern of n ports in p, and off its inverse in q. With i the entry at the last jack it came by B if jack i holds the last port,
-// which the inverse tells at once; else by A, and then i goes to the jack that holds the last port.
-pub fn peel(p: &mut [u8; LONGEST], q: &mut [u8; LONGEST], n: u8) -> Came
-    requires { (length p.old ≡ most_ports) × (length q.old ≡ most_ports) × (2 ≤ n) × (n ≤ most_ports) × WithInverse n p.old q.old }
-    ensures { Peeled n (take n p.old) result p.new q.new }
+// One level taken off a pattern, and off its inverse. With i the entry at the last jack it came by B if jack i holds the last port, which the inverse tells at
+// once; else by A, and then i goes to the jack that holds the last port.
+pub fn peel(t: &mut Taken) -> Came
+    requires { 2 ≤ t.old.ports }
+    ensures { Peeled t.old result t.new }
 {
-    let last = (n - 1) as usize;
-    let i = p[last];
-    let holder = q[last];
+    let last = (t.ports - 1) as usize;
+    let i = t.copy[last];
+    let holder = t.inverse[last];
     if holder == i {
-        back_b(p, n);
-        back_b(q, n);
-        return Came::ByB(i);
+        back_b(&mut t.copy, t.ports);
+        back_b(&mut t.inverse, t.ports);
+        t.ports -= 2;
+        Came::ByB(i)
+    } else {
+        let jack = (holder - 1) as usize;
+        let port = (i - 1) as usize;
+        t.copy[jack] = i;
+        t.inverse[port] = holder;
+        t.ports -= 1;
+        Came::ByA(i)
     }
-    let jack = (holder - 1) as usize;
-    let port = (i - 1) as usize;
-    p[jack] = i;
-    q[port] = holder;
-    Came::ByA(i)
 }

@@ -22,8 +22,7 @@ pub fn block_of(c: Came) -> u8
     ensures { result ≡ end_of c }
 {
     match c {
-        Came::ByA(i) => i,
-        Came::ByB(i) => i,
+        Came::ByA(i) | Came::ByB(i) => i,
     }
 }
 

@@ -1,5 +1,5 @@
 // The move beside a pattern, read off its course: the lowest open level gives a row of the tables, and each step by B above it raises the move.
-ghost use Rattle.std.specs.Prelude.{◌≡◌, Bool, true, false, cond, ◌-◌, ◌≤◌, length};
+ghost use Rattle.std.specs.Prelude.{◌≡◌, Bool, true, false, cond, ◌-◌, ◌≤◌};
 ghost use Rattle.std.proofs.Math.Option.{some};
 ghost use Rattle.listing.specs.Numbers.{Among};
 ghost use Rattle.listing.specs.Limits.{most_ports};
@@ -16,7 +16,7 @@ use pattern_steps::numbers::is_odd;
 use words::limits::LONGEST;
 use words::{Jack, Move, Order};
 
-// A move, turned round where that is said.
+// A move, turned round where that is said. (Which way is data of the question.)
 fn inverse_if(back: bool, m: Move) -> Move
     ensures { move_of result ≡ cond back (inverse (move_of m)) (move_of m) }
 {
@@ -28,16 +28,16 @@ fn join_from(skips: bool, n: u8, i: u8) -> Move
     requires { (3 ≤ n) × (n ≤ most_ports) × Among (n - 1) i × (skips ≡ true → 4 ≤ n) }
     ensures { move_of result ≡ join_from (letter_if skips) n i }
 {
-    if n == 3 {
-        if i == 1 {
-            return Move::One(Order::Turn(Jack(1), Jack(2), Jack(3)));
-        }
-        return Move::One(Order::Turn(Jack(1), Jack(3), Jack(2)));
+    if n == 3 && i == 1 {
+        Move::One(Order::Turn(Jack(1), Jack(2), Jack(3)))
+    } else if n == 3 {
+        Move::One(Order::Turn(Jack(1), Jack(3), Jack(2)))
+    } else {
+        inverse_if(skips, join(n, i))
     }
-    inverse_if(skips, join(n, i))
 }
 
-// From block i to the next, or back to the one before it.
+// From block i to the next, or back to the one before it. (Which way is data of the list.)
 fn hop_from(forward: bool, n: u8, i: u8) -> Move
     requires { (4 ≤ n) × (n ≤ most_ports) × (forward ≡ true → Among (n - 2) i) × (forward ≡ false → Among (n - 2) (i - 1)) }
     ensures { move_of result ≡ hop_from forward n i }
@@ -51,23 +51,23 @@ fn hop_from(forward: bool, n: u8, i: u8) -> Move
 
 // The row of an open level: inside its block where the shorter list is read forward, else from its block to another.
 fn row_of(levels: &[u8; LONGEST], o: Open) -> Move
-    requires { (length levels.now ≡ most_ports) × (o.ports ≤ most_ports) × ((bottom : Bool) × Opens levels.now bottom o.ports o.inner) }
+    requires { (o.ports ≤ most_ports) × ((bottom : Bool) × Opens levels.now bottom o.ports o.inner) }
     ensures { move_of result ≡ row_at levels.now o.ports o.inner }
 {
     let n = o.ports;
     let i = levels[(n - 1) as usize];
     let skips = levels[(n - 2) as usize] == 0;
     if o.inner {
-        return join_from(skips, n, i);
+        join_from(skips, n, i)
+    } else {
+        // the shorter list is read backward: then the list is read forward by B in an odd block, and by A in an even one
+        let forward = is_odd(i) == skips;
+        hop_from(forward, n, i)
     }
-    // the shorter list is read backward: then the list is read forward by B in an odd block, and by A in an even one
-    let forward = is_odd(i) == skips;
-    hop_from(forward, n, i)
 }
 
 // A move of the list for fewer ports on the jacks of the list for n: raised by each step by B of the course above, over a level that is skipped.
 fn lifted(levels: &[u8; LONGEST], n: u8, from: u8, first: Move) -> Move
-    requires long { length levels.now ≡ most_ports }
     requires ports { (2 ≤ from) × (from ≤ n) × (n ≤ most_ports) }
     requires course { Course levels.now n × Course levels.now from }
     requires goes { (bottom : Bool) × (goes_on levels.now bottom from ≡ some (move_of first)) }
@@ -75,11 +75,11 @@ fn lifted(levels: &[u8; LONGEST], n: u8, from: u8, first: Move) -> Move
 {
     let mut v = first;
     let mut m = from;
+    // a step makes one jack or two
     while m < n {
         let at = m as usize;
         if levels[at] == 0 {
-            let i = levels[at + 1];
-            v = raised_by(i, v);
+            v = raised_by(levels[at + 1], v);
             m += 2;
         } else {
             m += 1;
@@ -90,14 +90,14 @@ fn lifted(levels: &[u8; LONGEST], n: u8, from: u8, first: Move) -> Move
 
 // The move from the pattern of a course to the one beside it, the next or, backward, the previous: where no level is open, the closing step.
 pub fn move_on(levels: &[u8; LONGEST], n: u8, back: bool, o: Open) -> Move
-    requires long { length levels.now ≡ most_ports }
     requires ports { (2 ≤ n) × (n ≤ most_ports) }
     requires course { Course levels.now n }
     requires sought { Sought levels.now n back o.ports o.inner }
     ensures { move_of result ≡ course_move levels.now n back }
 {
     if o.ports == 0 {
-        return inverse_if(back, closing(n));
+        inverse_if(back, closing(n))
+    } else {
+        lifted(levels, n, o.ports, row_of(levels, o))
     }
-    lifted(levels, n, o.ports, row_of(levels, o))
 }

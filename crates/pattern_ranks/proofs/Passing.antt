@@ -1,7 +1,6 @@
 -- One level of a pattern's place: what is passed over, the place of the shorter pattern, and that the sum fits 64 bits.
 -- Assumes nothing.
-use mathlib.Core.Path.{◌≡◌, refl, ◌∙◌}
-use mathlib.Core.Logic.{◌≢◌}
+use mathlib.Core.Path.{◌≡◌, refl, sym, ◌∙◌}
 use mathlib.Core.Bool.{Bool, true, false, cond}
 use mathlib.Core.List.{List}
 use Prim.Native.Nat.{ℕ, zero, suc, ◌+◌, ◌*◌, ◌-◌, ◌≤◌, ◌<◌}
@@ -9,22 +8,20 @@ use native.Mathlib.Nat.{mul-le-mul_right}
 use native.Mathlib.Omega.{arith}
 use mir.Syntax.{w64}
 use mir.Val.{Fits}
-use lib.ListN.{length, take}
 use Rattle.listing.specs.Numbers.{Among, before}
 use Rattle.listing.specs.Pattern.{entry, Derangement}
 use Rattle.listing.specs.Count.{count}
 use Rattle.listing.specs.Steps.{Letter, by_a, by_b, shorter, back, letter}
 use Rattle.listing.specs.Rank.{per_block, turned, rank}
 use Rattle.listing.specs.Reading.{other, comes_first, passed}
-use Rattle.listing.specs.Limits.{most_ports}
 use Rattle.listing.proofs.Counts.{count-blocks}
 use Rattle.listing.proofs.Reading.{rank-read}
-use Rattle.listing_course.specs.InPlace.{WithInverse}
+use Rattle.pattern_inverse.specs.declared.types.Taken.{Taken}
 use Rattle.pattern_levels.specs.Levels.{came_of, letter_of, end_of, Peeled}
 use Rattle.pattern_levels.specs.declared.types.Came.{Came}
 use Rattle.listing_course.proofs.Courses.{shorter-fewer}
-use Rattle.pattern_levels.proofs.Came.{as-came, two-jacks}
-use Rattle.pattern_ranks.specs.Levels.{PlacedBy, LevelOf, Placing}
+use Rattle.pattern_levels.proofs.Came.{as-came}
+use Rattle.pattern_ranks.specs.Levels.{PlacedBy, place_of, LevelOf, Placing}
 use Rattle.pattern_ranks.specs.declared.types.Level.{Level}
 
 -- ---- what is passed over
@@ -71,22 +68,14 @@ place-level forward {n = suc (suc m)} {p = p} {c = c} h D e =
     rw (← a.0, ← a.1) (rank-read forward m p (letter n p) D refl)
 
 -- so the level that code computes is that of the law
-pub level-of : {forward : Bool} {n : ℕ} {t a b : List ℕ} {c : Came} (l : Level) → 2 ≤ n → Derangement n t → Peeled n t c a b
-    → PlacedBy forward n c l → LevelOf forward n t l a b
-level-of {forward = forward} {n = n} {c = c} l h D s P =
-    let ek = P.left in
+pub level-of : {forward : Bool} {before after : Taken} {c : Came} (l : Level) → 2 ≤ before.ports → Peeled before c after
+    → PlacedBy forward before.ports c l → LevelOf forward before l after
+level-of {forward = forward} {before = before} {c = c} l h s P =
     record {
-      fewer = rw ek (shorter-fewer (letter_of c) n h);
-      long = s.long;
-      long-back = s.long-back;
-      arrays = rw ek s.arrays;
-      place = rw (← P.over, ← P.read, ← s.shown, ← ek) at (place-level forward h D s.came);
+      left = s.left ∙ sym P.left;
+      fewer = rw P.left (shorter-fewer (letter_of c) before.ports h);
+      place = rw (← P.over, ← P.read, ← s.left, ← s.shown) at (place-level forward h before.arrays.pattern s.came);
     }
-
--- what a level asks of the arrays of a pattern that is to be placed
-pub level-asked : {forward : Bool} {n x : ℕ} {a b : List ℕ} → n ≢ 0 → Placing forward n a b x
-    → (length a ≡ most_ports) × (length b ≡ most_ports) × (2 ≤ n) × (n ≤ most_ports) × WithInverse n a b
-level-asked h s = (s.long, s.long-back, two-jacks h s.arrays.pattern, s.most, s.arrays)
 
 -- the pattern with no ports has place 0
 pub place_none : (forward : Bool) (n x : ℕ) (p : List ℕ) → n ≡ 0 → x ≡ x + turned forward (count n) (rank n p)
@@ -94,28 +83,20 @@ unfolding count rank
 place_none true n x p e = rw e (omega arith)
 place_none false n x p e = rw e (omega arith)
 
--- what holds once a level of a pattern with so many ports is known, which was to be placed after x: what is passed over is added to x, and so the shorter
--- pattern is to be placed; and its place is then that of the pattern
-pub record Onward (forward : Bool) (n x : ℕ) (t : List ℕ) (l : Level) (a b : List ℕ) (ports : ℕ) : Type 0 where
-  pub fewer : l.ports < ports
+-- what holds once a level of a pattern is known, which was to be placed after x: what is passed over is added to x, and so the shorter pattern is to be placed;
+-- and its place is then that of the pattern
+pub record Onward (forward : Bool) (x : ℕ) (before : Taken) (l : Level) (after : Taken) : Type 0 where
+  pub fewer : after.ports < before.ports
   pub sum : Fits w64 (x + l.passed)
-  pub placing : {f : Bool} → l.forward ≡ f → Placing f l.ports a b (x + l.passed)
-  pub place : {f : Bool} {y : ℕ} → l.forward ≡ f → y ≡ x + l.passed + turned f (count l.ports) (rank l.ports (take l.ports a))
-      → y ≡ x + turned forward (count n) (rank n t)
+  pub placing : {f : Bool} → l.forward ≡ f → Placing f after (x + l.passed)
+  pub place : {f : Bool} {y : ℕ} → l.forward ≡ f → y ≡ x + l.passed + place_of f after → y ≡ x + place_of forward before
 
-pub onward : {forward : Bool} {n x ports : ℕ} {a₀ b₀ a b : List ℕ} {l : Level} → LevelOf forward n (take n a₀) l a b → n ≡ ports → Placing forward n a₀ b₀ x
-    → Onward forward n x (take n a₀) l a b ports
-onward {forward = forward} {n = n} {x = x} {a₀ = a₀} {a = a} {l = l} here e known =
+pub onward : {forward : Bool} {x : ℕ} {before after : Taken} {l : Level} → LevelOf forward before l after → Placing forward before x
+    → Onward forward x before l after
+onward {forward = forward} {x = x} {before = before} {after = after} {l = l} here known =
     record {
-      fewer = omega (arith, here.fewer);
-      sum = omega (arith, here.place, known.fits);
-      placing = λ ef.
-          record {
-            most = omega (arith, here.fewer, known.most);
-            long = here.long;
-            long-back = here.long-back;
-            arrays = here.arrays;
-            fits = rw (← ef) (omega (arith, here.place, known.fits));
-          };
+      fewer = omega (arith, here.left, here.fewer);
+      sum = omega (arith, here.place, known);
+      placing = λ ef. rw (← ef) (omega (arith, here.place, known));
       place = λ ef ey. ey ∙ rw (← ef) (omega (arith, here.place));
     }

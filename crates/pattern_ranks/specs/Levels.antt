@@ -1,12 +1,13 @@
 -- One level of a pattern's place: what is passed over, and the place of the shorter pattern; and what the place of a pattern asks.
 -- Assumes nothing.
-use Rattle.std.specs.Prelude.{ℕ, ◌+◌, ◌≤◌, ◌<◌, ◌≡◌, Bool, List, length, take}
+use Rattle.std.specs.Prelude.{ℕ, ◌+◌, ◌≤◌, ◌<◌, ◌≡◌, Bool}
 use Rattle.listing.specs.Count.{count}
 use Rattle.listing.specs.Steps.{shorter}
 use Rattle.listing.specs.Rank.{turned, rank}
 use Rattle.listing.specs.Reading.{comes_first, passed}
-use Rattle.listing.specs.Limits.{most_ports, largest64}
-use Rattle.listing_course.specs.InPlace.{WithInverse}
+use Rattle.listing.specs.Limits.{largest64}
+use Rattle.pattern_inverse.specs.Judged.{pattern_of}
+use Rattle.pattern_inverse.specs.declared.types.Taken.{Taken}
 use Rattle.pattern_levels.specs.Levels.{letter_of, end_of}
 use Rattle.pattern_levels.specs.declared.types.Came.{Came}
 use Rattle.pattern_ranks.specs.declared.types.Level.{Level}
@@ -18,19 +19,17 @@ pub record PlacedBy (forward : Bool) (n : ℕ) (c : Came) (l : Level) : Type 0 w
   pub read : l.forward ≡ comes_first forward (letter_of c) (end_of c)
   pub left : l.ports ≡ shorter (letter_of c) n
 
--- one level of the place of t in the list, read forward or backward ('by turns', the paper, 'The list'): a pattern with fewer ports, in the arrays a and b, and
--- the place of t is what is passed over and the place of that pattern in its list, read forward or backward
-pub record LevelOf (forward : Bool) (n : ℕ) (t : List ℕ) (l : Level) (a b : List ℕ) : Type 0 where
-  pub fewer : l.ports < n
-  pub long : length a ≡ most_ports
-  pub long-back : length b ≡ most_ports
-  pub arrays : WithInverse l.ports a b
-  pub place : turned forward (count n) (rank n t) ≡ l.passed + turned l.forward (count l.ports) (rank l.ports (take l.ports a))
+-- the place of a pattern in the list read forward or backward
+abbrev pub place_of : Bool → Taken → ℕ
+place_of forward t = turned forward (count t.ports) (rank t.ports (pattern_of t))
 
--- the arrays have a pattern of n ports and its inverse, and its place in the list, read forward or backward, after so many passed over, fits 64 bits
-pub record Placing (forward : Bool) (n : ℕ) (a b : List ℕ) (passed : ℕ) : Type 0 where
-  pub most : n ≤ most_ports
-  pub long : length a ≡ most_ports
-  pub long-back : length b ≡ most_ports
-  pub arrays : WithInverse n a b
-  pub fits : passed + turned forward (count n) (rank n (take n a)) ≤ largest64
+-- one level of the place of a pattern in the list, read forward or backward ('by turns', the paper, 'The list'): a pattern with fewer ports is left, and the
+-- place is what is passed over and the place of that pattern in its list, read forward or backward
+pub record LevelOf (forward : Bool) (before : Taken) (l : Level) (after : Taken) : Type 0 where
+  pub left : after.ports ≡ l.ports
+  pub fewer : l.ports < before.ports
+  pub place : place_of forward before ≡ l.passed + place_of l.forward after
+
+-- the place of a pattern in the list, read forward or backward, after so many passed over, fits 64 bits
+abbrev pub Placing : Bool → Taken → ℕ → Type 0
+Placing forward t passed = passed + place_of forward t ≤ largest64

@@ -18,9 +18,9 @@ part_count by_a n h = h.0 ∙ ap count (less_one n)
 part_count by_b n h = h.1 ∙ ap count (less_two n)
 
 -- together they are the block
-pub parts-size : (n : ℕ) {parts : Parts} → PartsOf n parts → parts.0 + parts.1 ≡ per_block n
+pub parts-size : (n : ℕ) {parts : Parts} → PartsOf n parts → parts.by_a + parts.by_b ≡ per_block n
 parts-size n h = omega (arith, part_count by_a n h, part_count by_b n h)
 
 -- and fit 64 bits
-pub parts-fit : (n : ℕ) {parts : Parts} → n ≤ most_ports → PartsOf n parts → parts.0 + parts.1 ≤ largest64
+pub parts-fit : (n : ℕ) {parts : Parts} → n ≤ most_ports → PartsOf n parts → parts.by_a + parts.by_b ≤ largest64
 parts-fit n l h = omega (arith, count_most (n - 1) (omega arith), count_most (n - 2) (omega arith))

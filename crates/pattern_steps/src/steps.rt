@@ -31,13 +31,12 @@ fn port_by_b(t: &[u8], m: u8, i: u8, j: u8) -> u8
 {
     let n = m + 2;
     if j == n {
-        return i;
+        i
+    } else if j == i {
+        n
+    } else {
+        raised(i, t[(lowered(i, j) - 1) as usize])
     }
-    if j == i {
-        return n;
-    }
-    let at = (lowered(i, j) - 1) as usize;
-    raised(i, t[at])
 }
 
 // B(i), from the pattern of m ports, from the last jack down: no jack is written before its port has been taken.
@@ -45,35 +44,26 @@ pub fn step_b(out: &mut [u8], m: u8, i: u8)
     requires { (suc (suc m) ≤ length out.old) × (suc (suc m) ≤ most_ports) × Derangement m (take m out.old) × Among (suc m) i }
     ensures { take (suc (suc m)) out.new ≡ step_b (suc (suc m)) i (take m out.old) }
 {
-    let mut j = m + 2;
-    while 0 < j {
-        let at = (j - 1) as usize;
-        out[at] = port_by_b(out, m, i, j);
-        j -= 1;
+    for at in (0..m + 2).rev() {
+        out[at as usize] = port_by_b(out, m, i, at + 1);
     }
 }
 
 // The port that jack j gets where jack i is taken out: one less above i.
 fn port_back_b(p: &[u8; LONGEST], i: u8, j: u8) -> u8
-    requires { (length p.now ≡ most_ports) × Among most_ports (raise i j) × (j ≤ most_ports) }
+    requires { Among most_ports (raise i j) × (j ≤ most_ports) }
     ensures { result ≡ lower i (entry p.now (raise i j)) }
 {
-    let at = (raised(i, j) - 1) as usize;
-    lowered(i, p[at])
+    lowered(i, p[(raised(i, j) - 1) as usize])
 }
 
 // Back from B, of a pattern of n ports or of its inverse, from the first jack on: with i the entry at the last jack, jack i taken out and one less above i.
 pub fn back_b(p: &mut [u8; LONGEST], n: u8)
-    requires { (length p.old ≡ most_ports) × (2 ≤ n) × (n ≤ most_ports) }
-    ensures long { length p.new ≡ most_ports }
-    ensures pattern { take (n - 2) p.new ≡ un_b n (take n p.old) }
+    requires { (2 ≤ n) × (n ≤ most_ports) }
+    ensures { take (n - 2) p.new ≡ un_b n (take n p.old) }
 {
-    let last = (n - 1) as usize;
-    let i = p[last];
-    let mut j: u8 = 0;
-    while j < n - 2 {
-        let at = j as usize;
-        p[at] = port_back_b(p, i, j + 1);
-        j += 1;
+    let i = p[(n - 1) as usize];
+    for at in 0..n - 2 {
+        p[at as usize] = port_back_b(p, i, at + 1);
     }
 }

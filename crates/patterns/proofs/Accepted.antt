@@ -1,14 +1,10 @@
 -- The calls that begin with the check: they pass its refusal on whole, and an accepted pattern has its rank and its neighbours in the list.
 -- Assumes nothing.
-use mathlib.Core.Path.{◌≡◌, refl, sym, ap, ◌∙◌}
-use mathlib.Core.Bool.{Bool, true, false, cond}
+use mathlib.Core.Path.{◌≡◌}
+use mathlib.Core.Bool.{Bool}
 use mathlib.Core.List.{List}
-use Prim.Native.Nat.{ℕ, zero, suc, ◌≤◌, ◌<◌}
-use native.Mathlib.Omega.{arith}
-use lib.Dec.{leb}
+use Prim.Native.Nat.{ℕ, ◌<◌}
 use lib.ListN.{length}
-use borrow.Author.Tests.{leb-true}
-use Rattle.listing.specs.Pattern.{Derangement}
 use Rattle.listing.specs.Count.{count}
 use Rattle.listing.specs.Listing.{at}
 use Rattle.listing.specs.Rank.{rank}
@@ -17,7 +13,7 @@ use Rattle.listing.specs.Neighbours.{rank_beside, move_beside}
 use Rattle.listing.proofs.Numbers.{from-two}
 use Rattle.listing.proofs.Ranks.{rank_below, at-rank}
 use Rattle.listing.proofs.Neighbours.{beside-leads}
-use Rattle.words.specs.Told.{Spot, nowhere, Told, accepted, refused, then}
+use Rattle.words.specs.Told.{Spot, accepted, refused}
 use Rattle.pattern_check.specs.Calls.{check_of}
 use Rattle.patterns.specs.Calls.{rank_of, listed_of, unrank_of, unrank_bytes, beside_of, beside_bytes}
 use Rattle.pattern_check.proofs.Accepted.{Pattern, accepted-pattern}

@@ -4,49 +4,40 @@ ghost use Rattle.words.specs.Meaning.{numbered_told, outcome_told};
 ghost use Rattle.listing.specs.Limits.{most_ports};
 ghost use Rattle.patterns.specs.Calls.{rank_of, listed_of, unrank_of, unrank_bytes};
 
-use pattern_check::checking::{check_inverse, in_size};
+use pattern_check::checking::{check_inverse, sized};
 use pattern_course::unranking::put_pattern;
 use pattern_ranks::ranking::rank_of;
 use pattern_steps::counts::count_of;
-use words::limits::LONGEST;
 use words::refusals::nowhere;
-use words::{Numbered, Outcome, Reason};
+use words::{Reason, Refusal};
 
-// The rank of a pattern, by the working copy and the inverse that the check leaves.
-pub fn rank(p: &[u8]) -> Numbered
+// The rank of a pattern, which the check takes in.
+pub fn rank(p: &[u8]) -> Result<u64, Refusal>
     ensures { numbered_told result ≡ rank_of most_ports p.now }
 {
-    let mut copy = [0u8; LONGEST];
-    let mut inverse = [0u8; LONGEST];
-    match check_inverse(p, &mut copy, &mut inverse) {
-        Outcome::Refused(f) => Numbered::Refused(f),
-        Outcome::Accepted => Numbered::Is(rank_of(&mut copy, &mut inverse, p.len() as u8)),
-    }
+    let mut taken = check_inverse(p)?;
+    Ok(rank_of(&mut taken))
 }
 
 // Whether so many ports have a pattern of this rank, and so one with this number in any order that begins at 0.
-pub fn listed(ports: usize, rank: u64) -> Outcome
+pub fn listed(ports: usize, rank: u64) -> Result<(), Refusal>
     ensures { outcome_told result ≡ listed_of most_ports ports rank }
 {
-    if !in_size(ports) {
-        return Outcome::Refused(nowhere(Reason::Ports));
+    sized(ports)?;
+    if rank < count_of(ports as u8) {
+        Ok(())
+    } else {
+        Err(nowhere(Reason::Rank))
     }
-    if count_of(ports as u8) <= rank {
-        return Outcome::Refused(nowhere(Reason::Rank));
-    }
-    Outcome::Accepted
 }
 
-// The pattern of a rank, for as many ports as the lent slice has bytes.
-pub fn unrank(rank: u64, out: &mut [u8]) -> Outcome
+// The pattern of a rank, for as many ports as the lent slice has bytes. (`dictionary::numbering::numbered` says the same of the other order: what both share
+// is `listed`.)
+pub fn unrank(rank: u64, out: &mut [u8]) -> Result<(), Refusal>
     ensures answer { outcome_told result ≡ unrank_of most_ports rank out.old }
     ensures bytes { out.new ≡ unrank_bytes most_ports rank out.old }
 {
-    match listed(out.len(), rank) {
-        Outcome::Refused(f) => Outcome::Refused(f),
-        Outcome::Accepted => {
-            put_pattern(rank, out);
-            Outcome::Accepted
-        }
-    }
+    listed(out.len(), rank)?;
+    put_pattern(rank, out);
+    Ok(())
 }

@@ -1,34 +1,37 @@
 -- `pattern_inverse::invert` meets its contract: each turn copies one port and stores its jack, or finds why p is no pattern. The loop's invariant: the first
 -- `at` jacks hold ports, none of them its own; the copy has these ports, and the inverse their jacks and no other.
 -- Assumes nothing.
-use mathlib.Core.Path.{◌≡◌}
-use Prim.Native.Nat.{◌-◌}
+use mathlib.Core.Path.{◌≡◌, refl}
 use native.Mathlib.Omega.{arith}
 use lib.ListN.{length, length-set}
 use borrow.Author.Rules.{rules}
-use Rattle.pattern_inverse.proofs.Filled.{filled-turn, judged-yes, no-below, no_above, no_own, no-again}
+use Rattle.pattern_inverse.proofs.Filled.{Filled, filled-turn, filled-front, filled-inverse, no-below, no_above, no_own, no-again}
 use Rattle.pattern_inverse.proofs.invert.Goals as goal
+use Rattle.pattern_inverse.proofs.invert.Goals.{After-loop-at, then-port-lt1-via-then-port-lt1, then-port-lt1-via-else-port-lt1+then-n-port, then-port-lt1-via-else-port-lt1+else-n-port+then-port-jack, then-port-lt1-via-else-port-lt1+else-n-port+else-port-jack+then-inverse-port-ne0}
 
-pub returns-then-port-lt1-clause-judged : goal.returns-then-port-lt1-clause-judged
-returns-then-port-lt1-clause-judged c = no-below _ _ _ c.loop-at.at (search rules) c.if-port-lt1.true
-
-pub returns-then-n-port-clause-judged : goal.returns-then-n-port-clause-judged
-returns-then-n-port-clause-judged c = no_above _ _ _ c.loop-at.at (search rules) c.if-n-port.true
-
-pub returns-then-port-next-clause-judged : goal.returns-then-port-next-clause-judged
-returns-then-port-next-clause-judged c = no_own _ _ _ c.loop-at.at (search rules) c.if-port-next.true
-
-pub returns-then-inverse-port-ne0-clause-judged : goal.returns-then-inverse-port-ne0-clause-judged
-returns-then-inverse-port-ne0-clause-judged c = no-again _ _ _ c.loop-at.at (search rules) c.loop-at.invariant.3 c.if-port-lt1.false c.if-inverse-port-ne0.true
+pub returns-then-port-lt1 : goal.returns-then-port-lt1
+returns-then-port-lt1 c =
+    elim c.then-port-lt1.branch [
+      | then-port-lt1-via-then-port-lt1 w ↦ no-below _ c.loop-at.at (search rules) w.if-port-lt1.true
+      | then-port-lt1-via-else-port-lt1+then-n-port w ↦ no_above _ c.loop-at.at (search rules) w.if-n-port.true
+      | then-port-lt1-via-else-port-lt1+else-n-port+then-port-jack w ↦ no_own _ c.loop-at.at (search rules) w.if-port-jack.true
+      | then-port-lt1-via-else-port-lt1+else-n-port+else-port-jack+then-inverse-port-ne0 w ↦
+          no-again _ c.loop-at.at (search rules) _ _ c.loop-at.invariant.2 w.if-port-lt1.false w.if-inverse-port-ne0.true
+    ]
 
 pub loop-at-preserved : goal.loop-at-preserved
 loop-at-preserved c = (
-  search rules,
+  simp length-set c.loop-at.invariant.0,
   simp length-set c.loop-at.invariant.1,
-  simp length-set c.loop-at.invariant.2,
-  filled-turn _ _ _ c.loop-at.at c.loop-at.invariant.3 (search rules) (search rules) c.if-port-lt1.false c.if-n-port.false c.if-port-next.false c.if-inverse-port-ne0.false,
+  filled-turn _ _ _ c.loop-at.at c.loop-at.invariant.2 (search rules) (search rules) c.if-port-lt1.false c.if-n-port.false c.if-port-jack.false c.if-inverse-port-ne0.false,
 )
 
-pub returns-clause-judged : goal.returns-clause-judged
-returns-clause-judged c = let e : c.loop-at.at ≡ length c.args.p.now = omega arith in
-    judged-yes _ _ _ (search rules) (search rules) (rw e at c.loop-at.invariant.3)
+-- after the last jack
+all : (c : After-loop-at) → Filled c.args.p.now c.loop-at.copy c.loop-at.inverse (length c.args.p.now)
+all c = let e : c.loop-at.at ≡ length c.args.p.now = omega arith in rw e at c.loop-at.invariant.2
+
+pub invariant_of-result-clause-arrays : goal.invariant_of-result-clause-arrays
+invariant_of-result-clause-arrays c = filled-inverse _ _ _ (search rules) (search rules) (all c)
+
+pub returns : goal.returns
+returns c = (refl, filled-front _ _ _ (search rules) (all (goal.at.returns c).After-loop-at))

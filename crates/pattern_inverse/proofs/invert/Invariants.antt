@@ -2,14 +2,10 @@
 -- `at` jacks hold ports, none of them its own; the copy has these ports, and the inverse their jacks and no other.
 -- Assumes nothing.
 use mathlib.Core.Path.{◌≡◌}
-use Prim.Native.Nat.{◌≤◌, ◌-◌}
 use lib.ListN.{length}
 use Rattle.listing.specs.Limits.{most_ports}
 use Rattle.pattern_inverse.proofs.Filled.{Filled}
 use Rattle.pattern_inverse.proofs.invert.Given as goal
 
 abbrev pub invariant-loop-at : goal.invariant-loop-at
-invariant-loop-at l = (l.at ≤ length l.p) × (length l.copy ≡ most_ports) × (length l.inverse ≡ most_ports) × Filled l.p l.copy l.inverse l.at
-
-abbrev pub decreases-loop-at : goal.decreases-loop-at
-decreases-loop-at l = length l.p - l.at
+invariant-loop-at l = (length l.copy ≡ most_ports) × (length l.inverse ≡ most_ports) × Filled l.p l.copy l.inverse l.at

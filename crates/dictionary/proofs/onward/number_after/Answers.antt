@@ -13,6 +13,6 @@ overflow_add-number c = omega (arith, c.requires.1, counts-fit _ c.requires.0)
 pub returns-then-number-count_of : goal.returns-then-number-count_of
 returns-then-number-count_of c = sym (next-round c.args.n c.args.number (sym (add-one _) ∙ c.if-number-count_of.true ∙ c.count_of.ensures))
 
-pub returns : goal.returns
-returns c =
+pub returns-else-number-count_of : goal.returns-else-number-count_of
+returns-else-number-count_of c =
     add-one _ ∙ sym (next-on c.args.n c.args.number (λ e. c.if-number-count_of.false (add-one _ ∙ e ∙ sym c.count_of.ensures)))

@@ -1,5 +1,5 @@
 -- `dictionary_walk::ports::choose` meets its contract: each turn passes one port over. The loop's invariant: what is left of the number falls among the ports
--- after the first y as the number does among all.
+-- from y on as the number does among all.
 -- Assumes nothing.
 use Prim.Native.Nat.{◌-◌}
 use Rattle.listing_dictionary.specs.Number.{worth}
@@ -7,7 +7,4 @@ use Rattle.dictionary_walk.proofs.Flags.{Seeks}
 use Rattle.dictionary_walk.proofs.ports.choose.Given as goal
 
 abbrev pub invariant-loop-y : goal.invariant-loop-y
-invariant-loop-y l = Seeks (worth l.shares.early l.shares.late l.jack) l.taken l.n l.number l.y (l.n - l.y) l.rest
-
-abbrev pub decreases-loop-y : goal.decreases-loop-y
-decreases-loop-y l = l.n - l.y
+invariant-loop-y l = Seeks (worth l.shares.early l.shares.late l.jack) l.taken l.n l.number (l.y - 1) (l.n - (l.y - 1)) l.rest

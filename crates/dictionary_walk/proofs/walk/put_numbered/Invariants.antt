@@ -2,7 +2,6 @@
 -- and the ports so far with those that the rest of the number makes are the pattern of the number.
 -- Assumes nothing.
 use mathlib.Core.Path.{◌≡◌}
-use Prim.Native.Nat.{◌-◌, ◌≤◌}
 use lib.ListN.{length}
 use Rattle.dictionary_walk.specs.Free.{frees}
 use Rattle.dictionary_walk.proofs.Jacks.{Walks}
@@ -11,7 +10,4 @@ use Rattle.dictionary_walk.proofs.walk.put_numbered.Given as goal
 
 abbrev pub invariant-loop-at : goal.invariant-loop-at
 invariant-loop-at l =
-    (l.at ≤ length l.initial.out) × (length l.out ≡ length l.initial.out) × Walks (length l.initial.out) l.at l.taken l.row l.own × Made (length l.initial.out) l.number l.at (frees l.taken 0 (length l.initial.out)) l.out l.rest
-
-abbrev pub decreases-loop-at : goal.decreases-loop-at
-decreases-loop-at l = length l.initial.out - l.at
+    (length l.out ≡ length l.initial.out) × Walks (length l.initial.out) l.at l.taken l.row l.own × Made (length l.initial.out) l.number l.at (frees l.taken 0 (length l.initial.out)) l.out l.rest

@@ -1,7 +1,6 @@
 -- `pattern_carry::panels::first_wrong` gives the first jack at which two panels differ: those up to `at` are right, so those after it decide.
 -- Assumes nothing.
 use mathlib.Core.Path.{sym, ◌∙◌}
-use Prim.Native.Nat.{◌-◌}
 use borrow.Author.Rules.{rules}
 use Rattle.pattern_carry.proofs.Differ.{found-wrong, found_right, none_left}
 use Rattle.pattern_carry.proofs.panels.first_wrong.Goals as goal

@@ -8,6 +8,3 @@ use Rattle.pattern_carry.proofs.panels.first_wrong.Given as goal
 
 abbrev pub invariant-loop-at : goal.invariant-loop-at
 invariant-loop-at l = wrong_from l.n 1 (take l.n l.p) (take l.n l.q) ≡ wrong_from (l.n - l.at) (suc l.at) (take l.n l.p) (take l.n l.q)
-
-abbrev pub decreases-loop-at : goal.decreases-loop-at
-decreases-loop-at l = l.n - l.at

@@ -1,17 +1,16 @@
 -- `pattern_carry::panels::home_panel` sets one jack more at each turn.
 -- Assumes nothing.
 use mathlib.Core.Path.{◌∙◌}
-use Prim.Native.Nat.{◌-◌}
 use borrow.Author.Rules.{rules}
 use Rattle.pattern_carry.proofs.Home.{home-none, home-more, home_all}
 use Rattle.pattern_carry.proofs.panels.home_panel.Goals as goal
 
 pub loop-j-init : goal.loop-j-init
-loop-j-init c = (search rules, home-none c.args.n)
+loop-j-init c = home-none c.args.n
 
 pub loop-j-preserved : goal.loop-j-preserved
 loop-j-preserved c =
-    (search rules, home-more c.args.n c.loop-j.j _ c.loop-j.panel (search rules) c.loop-j.invariant.1 c.home_port.ensures)
+    home-more c.args.n c.loop-j.j _ c.loop-j.panel (search rules) c.loop-j.invariant c.home_port.ensures
 
 pub returns : goal.returns
-returns c = c.loop-j.invariant.1 ∙ home_all c.args.n c.loop-j.j (search rules)
+returns c = c.loop-j.invariant ∙ home_all c.args.n c.loop-j.j (search rules)

@@ -8,5 +8,5 @@ use Rattle.pattern_carry.proofs.panels.home_port.Goals as goal
 pub returns-then-j-n : goal.returns-then-j-n
 returns-then-j-n c = sym (is_same c.args.j c.args.n 1 _ c.if-j-n.true)
 
-pub returns : goal.returns
-returns c = add-one c.args.j ∙ sym (is-other c.args.j c.args.n 1 _ c.if-j-n.false)
+pub returns-else-j-n : goal.returns-else-j-n
+returns-else-j-n c = add-one c.args.j ∙ sym (is-other c.args.j c.args.n 1 _ c.if-j-n.false)

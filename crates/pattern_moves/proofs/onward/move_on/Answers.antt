@@ -12,6 +12,6 @@ returns-then-o-eq0 c =
     ∙ ap (λ (x : Move). cond c.args.back (inverse x) x) c.closing.ensures
     ∙ sought-ends _ _ _ _ _ c.requires.sought c.if-o-eq0.true
 
-pub returns : goal.returns
-returns c =
+pub returns-else-o-eq0 : goal.returns-else-o-eq0
+returns-else-o-eq0 c =
     sought-goes _ _ _ _ _ c.requires.sought c.if-o-eq0.false _ (rw c.row_of.ensures at c.lifted.ensures)

@@ -6,8 +6,8 @@ use Rattle.pattern_moves.proofs.onward.row_of.Goals as goal
 
 pub hop_from-requires : goal.hop_from-requires
 hop_from-requires c =
-    rw c.is_odd.ensures (hop-four c.requires.2.1 c.if-o.false, c.requires.1, hop-forward c.requires.2.1 c.if-o.false, hop-backward c.requires.2.1 c.if-o.false)
+    rw c.is_odd.ensures (hop-four c.requires.1.1 c.if-o.false, c.requires.0, hop-forward c.requires.1.1 c.if-o.false, hop-backward c.requires.1.1 c.if-o.false)
 
-pub returns : goal.returns
-returns c =
-    (rw c.is_odd.ensures at c.hop_from.ensures) ∙ row-hop c.requires.2.1 c.if-o.false
+pub returns-else-o : goal.returns-else-o
+returns-else-o c =
+    (rw c.is_odd.ensures at c.hop_from.ensures) ∙ row-hop c.requires.1.1 c.if-o.false

@@ -6,18 +6,18 @@ use native.Mathlib.Omega.{arith}
 use Rattle.pattern_moves.proofs.Down.{going-down, going_end}
 use Rattle.pattern_moves.proofs.seeking.take_apart.Goals as goal
 
-pub loop-m-preserved : goal.loop-m-preserved
-loop-m-preserved c =
-    rw (c.block_of.ensures, c.comes_first-forward.ensures, c.ports_below-m.ensures)
-    (going-down c.loop-m.p c.loop-m.q c.loop-m.levels _ _ c.loop-m.m c.peel-c.result _ c.requires.ports.1 (omega arith) c.loop-m.invariant
+pub loop-t-preserved : goal.loop-t-preserved
+loop-t-preserved c =
+    rw (c.block_of.ensures, c.comes_first-forward.ensures)
+    (going-down c.loop-t.t c.peel-c.new.t c.loop-t.levels _ _ c.args.t.now.fits (omega (arith, c.loop-t-test.true)) c.loop-t.invariant
     c.peel-c.ensures c.lowest-found.ensures.ports c.lowest-found.ensures.inner)
 
 pub returns-clause-course : goal.returns-clause-course
-returns-clause-course c = let e : c.loop-m.m ≡ 2 = omega (arith, c.loop-m.invariant.two) in
-    let f = going_end c.loop-m.p c.loop-m.q c.loop-m.levels c.loop-m.invariant e in
-    f.1
+returns-clause-course c =
+    let e : c.loop-t.t.ports ≡ 2 = omega (arith, c.loop-t.invariant.two) in
+    (going_end c.loop-t.t c.loop-t.levels c.loop-t.invariant e).0
 
 pub returns-clause-sought : goal.returns-clause-sought
-returns-clause-sought c = let e : c.loop-m.m ≡ 2 = omega (arith, c.loop-m.invariant.two) in
-    let f = going_end c.loop-m.p c.loop-m.q c.loop-m.levels c.loop-m.invariant e in
-    f.2
+returns-clause-sought c =
+    let e : c.loop-t.t.ports ≡ 2 = omega (arith, c.loop-t.invariant.two) in
+    (going_end c.loop-t.t c.loop-t.levels c.loop-t.invariant e).1

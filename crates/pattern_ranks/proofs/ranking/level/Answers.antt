@@ -5,4 +5,4 @@ use Rattle.pattern_ranks.proofs.ranking.level.Goals as goal
 
 pub returns : goal.returns
 returns c =
-    level-of _ c.requires.2 c.requires.4.pattern c.peel-c.ensures c.placed_by.ensures
+    level-of _ c.requires c.peel-c.ensures c.placed_by.ensures

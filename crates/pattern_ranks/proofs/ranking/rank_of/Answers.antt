@@ -6,11 +6,4 @@ use Rattle.listing.proofs.Ranks.{rank_below}
 use Rattle.pattern_ranks.proofs.ranking.rank_of.Goals as goal
 
 pub place-requires : goal.place-requires
-place-requires c =
-    record {
-      most = c.requires.2;
-      long = c.requires.0;
-      long-back = c.requires.1;
-      arrays = c.requires.3;
-      fits = omega (arith, rank_below _ _ c.requires.3.pattern, count_most _ c.requires.2);
-    }
+place-requires c = omega (arith, rank_below _ _ c.args.t.now.arrays.pattern, count_most _ c.args.t.now.fits)

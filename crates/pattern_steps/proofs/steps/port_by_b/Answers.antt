@@ -25,18 +25,18 @@ returns-then-j-i c =
     let n : c.args.m + 2 ≡ suc (suc c.args.m) = omega arith in
     n ∙ sym (is-other c.args.j _ c.args.i _ (omega arith) ∙ is_same c.args.j c.args.i _ _ c.if-j-i.true)
 
-pub overflow_sub-at : goal.overflow_sub-at
-overflow_sub-at c = omega (arith, from c)
+pub overflow_sub-lowered : goal.overflow_sub-lowered
+overflow_sub-lowered c = omega (arith, from c)
 
-pub bounds-t-at : goal.bounds-t-at
-bounds-t-at c = omega (arith, from (goal.at.bounds-t-at c).After-lowered)
+pub bounds-t-lowered : goal.bounds-t-lowered
+bounds-t-lowered c = omega (arith, from (goal.at.bounds-t-lowered c).After-lowered)
 
 pub raised-requires : goal.raised-requires
 raised-requires c =
     let f = from (goal.at.raised-requires c).After-lowered in
     rw (entry-below c.args.t.now c.lowered.result f.0.0) (c.requires.4 c.lowered.result f.1 f.0.1)
 
-pub returns : goal.returns
-returns c =
-    c.raised.ensures ∙ ap (raise c.args.i) (entry-below c.args.t.now c.lowered.result (from (goal.at.returns c).After-lowered).0.0 ∙ ap (entry c.args.t.now) c.lowered.ensures)
+pub returns-else-j-i : goal.returns-else-j-i
+returns-else-j-i c =
+    c.raised.ensures ∙ ap (raise c.args.i) (entry-below c.args.t.now c.lowered.result (from (goal.at.returns-else-j-i c).After-lowered).0.0 ∙ ap (entry c.args.t.now) c.lowered.ensures)
     ∙ sym (is-other c.args.j _ c.args.i _ (omega arith) ∙ is-other c.args.j c.args.i _ _ c.if-j-i.false)

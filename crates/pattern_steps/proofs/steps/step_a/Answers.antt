@@ -1,21 +1,15 @@
 -- `pattern_steps::steps::step_a` meets its contract: two stores make the step, at the jack that holds i and after all.
 -- Assumes nothing.
 use native.Mathlib.Omega.{arith}
-use lib.ListN.{length-set}
-use Rattle.listing.specs.Numbers.{Among}
 use Rattle.pattern_steps.proofs.Stored.{A-jack, A-made}
 use Rattle.pattern_steps.proofs.steps.step_a.Goals as goal
-use Rattle.pattern_steps.proofs.steps.step_a.Goals.{After-struct_known-1}
 
 -- the jack that was found is one of the pattern's
-jack : (c : After-struct_known-1) → Among c.args.m c.holder-jack.result.0
-jack c = A-jack c.args.out.now c.requires.2 c.requires.3 c.holder-jack.ensures
-
 pub overflow_sub-at : goal.overflow_sub-at
-overflow_sub-at c = omega (arith, jack c)
+overflow_sub-at c = omega (arith, A-jack c.args.out.now c.requires.2 c.requires.3 c.holder-jack.ensures)
 
 pub bounds-out-at : goal.bounds-out-at
-bounds-out-at c = omega (arith, jack (goal.at.bounds-out-at c).After-struct_known-1)
+bounds-out-at c = omega (arith, A-jack c.args.out.now c.requires.2 c.requires.3 c.holder-jack.ensures)
 
 pub returns : goal.returns
 returns c =

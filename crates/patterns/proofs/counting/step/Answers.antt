@@ -1,6 +1,5 @@
 -- `patterns::counting::step` tells what `step_of` says: 1 for the ports, 6 for the rank, else the place round the circuit. Two counts of 20 ports fit 64 bits.
 use mathlib.Core.Path.{sym, ap, ◌∙◌}
-use mathlib.Core.Bool.{not}
 use Prim.Native.Nat.{ℕ}
 use mir.Syntax.{w64}
 use mir.Val.{to_z, of_z}
@@ -9,33 +8,30 @@ use Rattle.listing.specs.Count.{count}
 use Rattle.listing.specs.Around.{around}
 use Rattle.listing.proofs.Limits.{counts-fit}
 use Rattle.words.specs.Told.{accepted}
-use Rattle.words.specs.Meaning.{refusal_of}
 use Rattle.patterns.specs.Calls.{step_of}
-use Rattle.pattern_check.proofs.Calls.{out-of-size, size-within}
-use Rattle.patterns.proofs.Calls.{listed, unlisted}
+use Rattle.pattern_check.proofs.Calls.{fits}
+use Rattle.pattern_check.proofs.Passed.{passed-on}
+use Rattle.patterns.proofs.Calls.{is-rank, listed-parts, listed-refused}
 use Rattle.patterns.proofs.counting.step.Goals as goal
 
-pub returns-then-not-in_size : goal.returns-then-not-in_size
+pub returns-in_err-listed : goal.returns-in_err-listed
 unfolding step_of
-returns-then-not-in_size c = ap refusal_of c.nowhere.ensures ∙ out-of-size _ _ _ c.in_size.ensures (ap not c.if-not-in_size.true)
+returns-in_err-listed c = passed-on _ _ _ c.from_residual.ensures.1 ∙ listed-refused _ _ _ _ _ _ c.in_err-listed.ensures
 
-pub count_of-total-requires : goal.count_of-total-requires
-count_of-total-requires c = (size-within _ _ c.in_size.ensures (ap not c.if-not-in_size.false)).1
-
-pub returns-then-total-rank : goal.returns-then-total-rank
-unfolding step_of
-returns-then-total-rank c =
-    ap refusal_of c.nowhere-then-total-rank.ensures ∙ sym (unlisted _ _ _ _ c.in_size.ensures (ap not c.if-not-in_size.false) c.count_of-total.ensures c.if-total-rank.true)
+pub count_of-requires : goal.count_of-requires
+count_of-requires c = (listed-parts _ _ _ c.in_ok-listed.ensures).1
 
 pub place_around-requires : goal.place_around-requires
 place_around-requires c =
-    (c.if-total-rank.false, rw c.count_of-total.ensures (counts-fit _ (size-within _ _ c.in_size.ensures (ap not c.if-not-in_size.false)).1))
+    let h = listed-parts _ _ _ c.in_ok-listed.ensures in
+    rw c.count_of.ensures (h.2, counts-fit _ h.1)
 
 pub returns : goal.returns
 unfolding step_of
 returns c =
+    let h = listed-parts _ _ _ c.in_ok-listed.ensures in
     ap accepted
     (c.place_around.ensures
-    ∙ ap (λ (x : ℕ). around x c.args.rank (to_z w64 (of_z w64 c.args.k))) c.count_of-total.ensures
+    ∙ ap (λ (x : ℕ). around x c.args.rank (to_z w64 (of_z w64 c.args.k))) c.count_of.ensures
     ∙ ap (around (count c.args.ports) c.args.rank) (to_z-of_z w64 c.args.k c.ranges.k))
-    ∙ sym (listed _ _ _ _ c.in_size.ensures (ap not c.if-not-in_size.false) c.count_of-total.ensures c.if-total-rank.false)
+    ∙ sym (fits _ _ _ h.0 h.1 ∙ is-rank _ _ _ h.2)

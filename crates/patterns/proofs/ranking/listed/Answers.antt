@@ -1,36 +1,29 @@
 -- `patterns::ranking::listed` tells 1, then 6, in this order.
 -- Assumes nothing.
-use mathlib.Core.Path.{sym, ap}
-use mathlib.Core.Bool.{not}
-use Prim.Native.Nat.{◌≤◌}
+use mathlib.Core.Path.{sym, ap, ◌∙◌}
 use native.Mathlib.Omega.{arith}
-use Rattle.listing.specs.Limits.{most_ports}
-use Rattle.pattern_check.proofs.Calls.{out-of-size, size-within}
+use Rattle.words.specs.Meaning.{refusal_of}
+use Rattle.pattern_check.proofs.Calls.{size-accepted, size-refused}
+use Rattle.pattern_check.proofs.Passed.{passed-on}
 use Rattle.patterns.specs.Calls.{listed_of}
 use Rattle.patterns.proofs.Calls.{listed, unlisted}
 use Rattle.patterns.proofs.ranking.listed.Goals as goal
-use Rattle.patterns.proofs.ranking.listed.Goals.{Else-not-in_size}
 
--- there are 2 to 20 ports
-size : (c : Else-not-in_size) → (2 ≤ c.args.ports) × (c.args.ports ≤ most_ports)
-size c = size-within _ _ c.in_size.ensures (ap not c.if-not-in_size.false)
-
-pub returns-then-not-in_size : goal.returns-then-not-in_size
+pub returns-in_err-sized : goal.returns-in_err-sized
 unfolding listed_of
-returns-then-not-in_size c = rw c.nowhere.ensures (out-of-size _ _ _ c.in_size.ensures (ap not c.if-not-in_size.true))
+returns-in_err-sized c = passed-on _ _ _ c.from_residual.ensures.1 ∙ size-refused _ _ _ _ _ c.in_err-sized.ensures
 
 pub overflow_cast-ports : goal.overflow_cast-ports
-overflow_cast-ports c = omega (arith, (size c).1)
+overflow_cast-ports c = omega (arith, size-accepted _ _ c.in_ok-sized.ensures)
 
 pub count_of-requires : goal.count_of-requires
-count_of-requires c = (size c).1
+count_of-requires c = (size-accepted _ _ c.in_ok-sized.ensures).1
 
-pub returns-then-count_of-rank : goal.returns-then-count_of-rank
+pub returns-then-rank-count_of : goal.returns-then-rank-count_of
 unfolding listed_of
-returns-then-count_of-rank c =
-    rw c.nowhere-then-count_of-rank.ensures (sym (unlisted _ _ _ _ c.in_size.ensures (ap not c.if-not-in_size.false) c.count_of.ensures (omega (arith, c.if-count_of-rank.true))))
+returns-then-rank-count_of c = sym (listed _ _ _ _ c.in_ok-sized.ensures c.count_of.ensures (omega (arith, c.if-rank-count_of.true)))
 
-pub returns : goal.returns
+pub returns-else-rank-count_of : goal.returns-else-rank-count_of
 unfolding listed_of
-returns c =
-    sym (listed _ _ _ _ c.in_size.ensures (ap not c.if-not-in_size.false) c.count_of.ensures (omega (arith, c.if-count_of-rank.false)))
+returns-else-rank-count_of c =
+    ap refusal_of c.nowhere.ensures ∙ sym (unlisted _ _ _ _ c.in_ok-sized.ensures c.count_of.ensures (omega (arith, c.if-rank-count_of.false)))

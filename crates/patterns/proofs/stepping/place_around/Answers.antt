@@ -13,7 +13,7 @@ returns-then-by c =
     let e = c.by_sign-by.ensures ∙ ap by_sign (to_z-of_z w64 c.args.k c.ranges.k) in
     steps_back c.args.total c.args.rank c.args.k e (omega arith) c.if-by.true
 
-pub returns : goal.returns
-returns c =
+pub returns-else-by : goal.returns-else-by
+returns-else-by c =
     let e = c.by_sign-by.ensures ∙ ap by_sign (to_z-of_z w64 c.args.k c.ranges.k) in
     steps_on c.args.total c.args.rank c.args.k e c.if-by.false
