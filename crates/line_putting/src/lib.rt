@@ -22,12 +22,10 @@ pub fn put_spelled(s: Spelled, at: usize, buf: &mut [u8]) -> usize
     requires { (s.len ≤ length s.bytes) × (at + s.len ≤ length buf.old) }
     ensures { Puts at (take s.len s.bytes) buf.old result buf.new }
 {
-    let n = s.len;
-    let bytes = s.bytes;
-    put_text(&bytes[..n], at, buf)
+    put_text(s.as_bytes(), at, buf)
 }
 
-// A number after its key.
+// A number after its key. (A line has a newline more, `plan_facts::put_line`.)
 pub fn put_number(key: &[u8], n: u64, at: usize, buf: &mut [u8]) -> usize
     requires { (length key.now ≤ 8) × (at + length (key.now ++ digits_of n) ≤ length buf.old) }
     ensures { Puts at (key.now ++ digits_of n) buf.old result buf.new }

@@ -20,16 +20,14 @@ use Rattle.text_keys.proofs.Cuts.{first-inside, to_the_end}
 use Rattle.line_format.specs.Format.{Kind, swapping, turning, seating, marking, ending, key, commas, line_of}
 use Rattle.line_format.specs.Reading.{number_before, numbers_in, fitting, numbers_told, keyed, line_in, read_of}
 use Rattle.text_numbers.specs.Answers.{read_is}
-use Rattle.text_numbers.specs.declared.Read.{Read as Found}
-use Rattle.text_numbers.specs.declared.Read.TheVariants.{Number, Bad}
 use Rattle.line_reader.specs.Answers.{listed_is, alone_of, preceded_by, kind_is, keyed_told}
+use Rattle.line_reader.specs.declared.order_lines.Numbers.{Numbers as Three}
 use Rattle.line_reader.specs.declared.order_lines.Kind.{Kind as Kind-Read}
 use Rattle.line_reader.specs.declared.order_lines.Kind.TheVariants.{Swap, Turn, Seat, Mark, End}
-use Rattle.line_reader.specs.declared.order_lines.Keyed.TheVariants.{Of}
-use Rattle.line_reader.specs.declared.order_lines.Listed.{Listed}
-use Rattle.line_reader.specs.declared.order_lines.Listed.TheVariants.{Are, Bad as Listed-Bad}
 use Rattle.words.specs.Shape.{line_fits, LineFits}
 use Rattle.words.proofs.Shape.{passes-fits}
+use Rattle.std.specs.declared.option.Option.{Option as Maybe}
+use Rattle.std.specs.declared.option.Option.TheVariants.{Some, None}
 
 -- ---- parts of a text
 
@@ -45,11 +43,11 @@ none-past b t place h = rw (drop_of_length-le t h)
 -- ---- numbers
 
 -- a number before one or two others, of which the third is not there
-one_more : (m a : ℕ) (rest : Listed) → m ≤ 1 → listed_is (suc m) (preceded_by a rest) ≡ map (λ x. (a, x)) (listed_is m rest)
-one_more zero a (Are x) h = refl
-one_more (suc zero) a (Are x) h = refl
-one_more (suc (suc m)) a (Are x) h = absurd (omega arith)
-one_more m a Listed-Bad h = refl
+one_more : (m a : ℕ) (rest : Maybe Three) → m ≤ 1 → listed_is (suc m) (preceded_by a rest) ≡ map (λ x. (a, x)) (listed_is m rest)
+one_more zero a (Some x) h = refl
+one_more (suc zero) a (Some x) h = refl
+one_more (suc (suc m)) a (Some x) h = absurd (omega arith)
+one_more m a None h = refl
 
 module _ (most : ℕ) where
   -- without a comma there is no number before it
@@ -69,16 +67,16 @@ module _ (most : ℕ) where
   no-first n m t z e = rw (z, ← e)
 
   -- one number alone
-  pub alone-numbers : (n : ℕ) (t : List ℕ) (found : Found) → n ≡ 0 → read_is found ≡ number_up_to most t → listed_is n (alone_of found) ≡ numbers_in most n t
+  pub alone-numbers : (n : ℕ) (t : List ℕ) (found : Maybe ℕ) → n ≡ 0 → read_is found ≡ number_up_to most t → listed_is n (alone_of found) ≡ numbers_in most n t
   unfolding numbers_in
   alone-numbers n t found z e = subst (λ m. listed_is m (alone_of found) ≡ numbers_in most m t) (sym z) (alone found ∙ e)
     where
-      alone : (r : Found) → listed_is 0 (alone_of r) ≡ read_is r
-      alone (Number k) = refl
-      alone Bad = refl
+      alone : (r : Maybe ℕ) → listed_is 0 (alone_of r) ≡ read_is r
+      alone (Some k) = refl
+      alone None = refl
 
   -- after the first, those from the place after its comma on decide
-  pub after_first : (n m : ℕ) (t : List ℕ) (a at : ℕ) (rest : Listed) → n ≡ suc m → m ≤ 1 → some (a, drop at t) ≡ number_before most t
+  pub after_first : (n m : ℕ) (t : List ℕ) (a at : ℕ) (rest : Maybe Three) → n ≡ suc m → m ≤ 1 → some (a, drop at t) ≡ number_before most t
       → listed_is m rest ≡ numbers_in most m (take (length t - at) (drop at t)) → listed_is n (preceded_by a rest) ≡ numbers_in most n t
   unfolding numbers_in bind
   after_first n m t a at rest z h e f = rw (z, ← e, ← to_the_end t at, ← f) (one_more m a rest h)
@@ -122,10 +120,10 @@ module _ (most jacks : ℕ) where
   -- ---- after the key
 
   -- numbers are judged as the line that they make; none, or the wrong count of them, are 8
-  abbrev pub judged_by : Kind-Read → Listed → Told Line
+  abbrev pub judged_by : Kind-Read → Maybe Three → Told Line
   judged_by k r = then (need 8 nowhere (listed_is (commas (kind_is k)) r)) (λ x. fitting jacks (line_of (kind_is k) x))
 
-  pub numbers-judged : (k : Kind-Read) (n at : ℕ) (t : List ℕ) (r : Listed) → n ≡ commas (kind_is k) → keyed_told most jacks t (Of k at) ≡ line_in most jacks t
+  pub numbers-judged : (k : Kind-Read) (n at : ℕ) (t : List ℕ) (r : Maybe Three) → n ≡ commas (kind_is k) → keyed_told most jacks t (Some (k, at)) ≡ line_in most jacks t
       → listed_is n r ≡ numbers_in most n (take (length t - at) (drop at t)) → judged_by k r ≡ line_in most jacks t
   unfolding numbers_told
   numbers-judged k n at t r z h e =

@@ -3,11 +3,11 @@ ghost use Rattle.std.specs.Prelude.{◌≡◌};
 ghost use Rattle.line_writer.specs.Answers.{written_told};
 ghost use Rattle.line_refusal.specs.Words.{refusal_words_of, refusal_words_bytes};
 
-use line_writer::answers::Written;
 use line_writer::order_lines::write_text;
+use words::Refusal;
 
-// The words of the refusal with this number, written at the front of a buffer.
-pub fn refusal_words(number: u8, buf: &mut [u8]) -> Written
+// The words of the refusal with this number, written at the front of a buffer. (C asks by the number, and any number has words.)
+pub fn refusal_words(number: u8, buf: &mut [u8]) -> Result<usize, Refusal>
     ensures answer { written_told result ≡ refusal_words_of number buf.old }
     ensures bytes { buf.new ≡ refusal_words_bytes number buf.old }
 {

@@ -1,4 +1,4 @@
--- Texts written one behind the other: the part of a buffer from a place on (`part-whole`, `part-put`), a text over it (`part-over`), and behind another one
+-- Texts written one behind the other: the part of a buffer from a place on (`part-whole`, `part-put`), and a text over what stands behind another one
 -- (`over-behind`), so that three of them are one text over the buffer (`over-three`), are told as one (`three-room`, `three-front`), and as the sentence if they
 -- are its parts (`sentence-told`). At the end, that any words fit 49 bytes (`words-fit`).
 -- Assumes nothing.
@@ -8,18 +8,18 @@ use Prim.Native.Nat.{ℕ, ◌+◌, ◌-◌, ◌≤◌, ◌<◌}
 use native.Mathlib.Omega.{arith}
 use lib.ListN.{length, take, drop, length-append, take-append-drop}
 use lib.Seq.{drop-drop, drop-length, take_at, take-append_seam, drop-append_seam}
-use borrow.Rule.Slice.PartMut.{mid_of, put_mid, mid_len, Post-is}
+use borrow.Rule.Slice.PartMut.{mid_of, put_mid, Post-is}
 use Rattle.words.specs.Told.{Told, nowhere, accepted, refused}
 use Rattle.words.specs.declared.Refusal.{Refusal}
 use Rattle.words.proofs.Told.{not-both, accepted-once}
 use Rattle.line_format.specs.Calls.{room_of, over, room_bytes}
 use Rattle.line_format.proofs.Written.{text-room, text-front}
 use Rattle.line_writer.specs.Answers.{written_told}
-use Rattle.line_writer.specs.declared.answers.Written.{Written}
-use Rattle.line_writer.specs.declared.answers.Written.TheVariants.{Bytes, Refused}
 use Rattle.line_refusal.specs.Words.{words_of, most_words, refusal_words_of, refusal_words_bytes}
 use Rattle.line_refusal.proofs.Words.{words-longest}
 use Rattle.line_sentence.specs.Sentences.{where_text, other_text, sentence_of, refusal_sentence_of, refusal_sentence_bytes}
+use Rattle.std.specs.declared.result.Result.{Result}
+use Rattle.std.specs.declared.result.Result.TheVariants.{Ok, Err}
 
 -- ---- from a place on
 
@@ -39,14 +39,6 @@ module _ (b : List ℕ) (at : ℕ) (h : at ≤ length b) where
   -- what is left in its place stands after what stands before the place
   pub part-put : (ys : List ℕ) → put_mid at room b ys ≡ take at b ++ ys
   part-put ys = ap (λ x. take at b ++ (ys ++ x)) none_after ∙ ap (λ x. take at b ++ x) (append-nil ys)
-
--- the text is put at its front, and what stands before the place stays
-pub part-over : (t b : List ℕ) (at : ℕ) → at + length t ≤ length b → (ys : List ℕ) → ys ≡ room_bytes t (mid_of at (length b - at) b)
-    → put_mid at (length b - at) b ys ≡ take at b ++ over t (drop at b)
-part-over t b at h ys e =
-    let inside : at ≤ length b = omega arith in
-    let fits : length t ≤ length (mid_of at (length b - at) b) = omega (arith, mid_len at (length b) b (omega arith)) in
-    part-put b at inside ys ∙ ap (λ x. take at b ++ x) (e ∙ sym (text-front t (mid_of at (length b - at) b) fits).1 ∙ ap (over t) (part-whole b at inside))
 
 -- ---- one behind the other
 
@@ -99,18 +91,18 @@ sentence-told number place earlier buf {t} {u} {v} {left} {told} e f g h =
 
 -- ---- the words in an array of 49 bytes
 
-module _ (number : ℕ) (buf : List ℕ) (room : length buf ≡ most_words) (w : Written) (told : written_told w ≡ refusal_words_of number buf) where
+module _ (number : ℕ) (buf : List ℕ) (room : length buf ≡ most_words) (w : Result ℕ Refusal) (told : written_told w ≡ refusal_words_of number buf) where
   fit : (accepted (length (words_of number)) ≡ refusal_words_of number buf) × (over (words_of number) buf ≡ refusal_words_bytes number buf)
   unfolding refusal_words_of refusal_words_bytes
   fit = text-front (words_of number) buf (omega (arith, room, words-longest number))
 
   -- they stand at its front
-  pub words-fit : (n : ℕ) (left : List ℕ) → w ≡ Bytes n → left ≡ refusal_words_bytes number buf
+  pub words-fit : (n : ℕ) (left : List ℕ) → w ≡ Ok n → left ≡ refusal_words_bytes number buf
       → (take n left ≡ words_of number) × (n ≡ length (words_of number))
   words-fit n left e l =
       let all : n ≡ length (words_of number) = accepted-once (sym (ap written_told e) ∙ told ∙ sym fit.0) in
       (ap (take n) (l ∙ sym fit.1) ∙ take_at (words_of number) (drop (length (words_of number)) buf) n (sym all), all)
 
   -- and are never refused
-  pub words-never : (f : Refusal) → w ≡ Refused f → ⊥
+  pub words-never : (f : Refusal) → w ≡ Err f → ⊥
   words-never f e = not-both (sym (ap written_told e) ∙ told ∙ sym fit.0)

@@ -1,16 +1,15 @@
 -- What the writer's answer tells: the paper's number of the refusal, or how many bytes were written. At the end, what its inner pieces answer.
 -- Assumes nothing.
 use Rattle.std.specs.Prelude.{ℕ, ◌+◌, ◌≡◌, List, ◌++◌, length, take}
-use Rattle.words.specs.Told.{Told, accepted}
-use Rattle.words.specs.Meaning.{refusal_of}
-use Rattle.line_writer.specs.declared.answers.Written.{Written}
-use Rattle.line_writer.specs.declared.answers.Written.TheVariants.{Bytes, Refused as Written-Refused}
+use Rattle.words.specs.Told.{Told}
+use Rattle.words.specs.Meaning.{answer_told}
 use Rattle.line_writer.specs.declared.order_lines.Spelled.{Spelled}
+use Rattle.std.specs.declared.result.Result.{Result}
+use Rattle.words.specs.declared.Refusal.{Refusal}
 
 -- the call
-abbrev pub written_told : Written → Told ℕ
-written_told (Bytes n) = accepted n
-written_told (Written-Refused f) = refusal_of f
+abbrev pub written_told : Result ℕ Refusal → Told ℕ
+written_told r = answer_told (λ n. n) r
 
 -- ---- inner pieces
 

@@ -3,21 +3,11 @@ ghost use Rattle.std.specs.Prelude.{◌≡◌};
 ghost use Rattle.words.specs.Meaning.{numbered_told};
 ghost use Rattle.line_writer.specs.Answers.{written_told};
 
-use words::{Numbered, Refusal};
-
-// How many bytes were written.
-#[derive(Clone, Copy)]
-pub enum Written {
-    Bytes(usize),
-    Refused(Refusal),
-}
+use words::Refusal;
 
 // The same as a number.
-pub fn bytes_number(written: Written) -> Numbered
+pub fn bytes_number(written: Result<usize, Refusal>) -> Result<u64, Refusal>
     ensures { numbered_told result ≡ written_told written }
 {
-    match written {
-        Written::Refused(f) => Numbered::Refused(f),
-        Written::Bytes(n) => Numbered::Is(n as u64),
-    }
+    written.map(|n| n as u64)
 }

@@ -17,9 +17,7 @@ pub fn pair_line(key: &[u8], a: u64, b: u64) -> Spelled
     requires { length key.now ≤ 5 }
     ensures { Spells result (pair_text key.now a b) }
 {
-    let first = begun(key, a);
-    let both = and_both(first, b",", b);
-    and_part(both, b"\n")
+    and_part(and_both(begun(key, a), b",", b), b"\n")
 }
 
 // A cord: the jack, and the port that it holds.
@@ -50,7 +48,8 @@ pub fn run_line(run: Signed) -> Spelled
     ensures { Spells result (run_text run) }
 {
     if run.back {
-        return number_line(b"run=-", run.magnitude);
+        number_line(b"run=-", run.magnitude)
+    } else {
+        number_line(b"run=", run.magnitude)
     }
-    number_line(b"run=", run.magnitude)
 }

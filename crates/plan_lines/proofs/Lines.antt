@@ -12,7 +12,7 @@ use native.Mathlib.Omega.{arith}
 use lib.Dec.{leb, ltb}
 use lib.ListN.{length, take, drop, length-drop}
 use lib.Seq.{take-nil, drop-drop, length-take-le}
-use borrow.Author.Tests.{le-leb, lt-leb, lt-ltb, leb-true, ltb-true}
+use borrow.Author.Tests.{le-leb, lt-ltb, leb-true, ltb-true}
 use Rattle.words.specs.Told.{Spot, accepted, refused, at_line}
 use Rattle.words.specs.declared.Signed.{Signed}
 use Rattle.text_keys.specs.Parts.{newline, first_of, begins, Parts}
@@ -86,16 +86,6 @@ module _ (t : List ℕ) (at : ℕ) (key : List ℕ) (line : ℕ) where
 pub good-value : (low below n : ℕ) → low ≤ n → n < below → between low below n ≡ true
 unfolding between
 good-value low below n h l = rw (le-leb low n h, lt-ltb n below l)
-
--- one below low is not
-pub low_value : (low below n : ℕ) → n < low → between low below n ≡ false
-unfolding between
-low_value low below n h = rw (lt-leb low n h)
-
--- any other is good if it is below `below`
-pub high_value : (low below n : ℕ) → low ≤ n → between low below n ≡ ltb n below
-unfolding between
-high_value low below n h = rw (le-leb low n h)
 
 -- a good value is from low on and below `below`
 pub value-good : (low below n : ℕ) → between low below n ≡ true → (low ≤ n) × (n < below)

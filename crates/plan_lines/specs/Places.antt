@@ -7,10 +7,9 @@ use Rattle.text_keys.specs.Parts.{Parts}
 use Rattle.words.specs.declared.Signed.{Signed}
 use Rattle.plan_lines.specs.Field.{Field, Got}
 use Rattle.plan_lines.specs.declared.Values.{Values}
-use Rattle.plan_lines.specs.declared.Bounds.{Bounds}
-use Rattle.plan_lines.specs.declared.Bounds.TheVariants.{Value, Refused as Bounds-Refused}
-use Rattle.plan_lines.specs.declared.LineRead.{LineRead}
-use Rattle.plan_lines.specs.declared.LineRead.TheVariants.{Value as Line-Value, Refused as Line-Refused}
+use Rattle.std.specs.declared.result.Result.{Result}
+use Rattle.std.specs.declared.result.Result.TheVariants.{Ok, Err}
+use Rattle.words.specs.declared.Refusal.{Refusal}
 
 -- the kind of line that a key and values say
 abbrev pub field_of : ℕ → List ℕ → Values → Field
@@ -21,19 +20,19 @@ abbrev pub part : ℕ → ℕ → List ℕ → List ℕ
 part a b t = take (b - a) (drop a t)
 
 -- a line's value, and the text after its newline
-abbrev pub bounds_told : List ℕ → Bounds → Told Parts
-bounds_told t (Value from to) = accepted (record { front = part from to t; rest = drop (to + 1) t })
-bounds_told t (Bounds-Refused f) = refusal_of f
+abbrev pub bounds_told : List ℕ → Result (ℕ × ℕ) Refusal → Told Parts
+bounds_told t (Ok (from, to)) = accepted (record { front = part from to t; rest = drop (to + 1) t })
+bounds_told t (Err f) = refusal_of f
 
-abbrev pub BoundsWithin : List ℕ → Bounds → Type 0
-BoundsWithin t (Value from to) = (from ≤ to) × (to < length t)
-BoundsWithin t (Bounds-Refused f) = Unit {0}
+abbrev pub BoundsWithin : List ℕ → Result (ℕ × ℕ) Refusal → Type 0
+BoundsWithin t (Ok (from, to)) = (from ≤ to) × (to < length t)
+BoundsWithin t (Err f) = Unit {0}
 
 -- a number, and the text from the place after the line on
-abbrev pub line_told : List ℕ → LineRead → Told (Got Signed)
-line_told t (Line-Value s next) = accepted (record { value = s; rest = drop next t })
-line_told t (Line-Refused f) = refusal_of f
+abbrev pub line_told : List ℕ → Result (Signed × ℕ) Refusal → Told (Got Signed)
+line_told t (Ok (s, next)) = accepted (record { value = s; rest = drop next t })
+line_told t (Err f) = refusal_of f
 
-abbrev pub LineWithin : List ℕ → LineRead → Type 0
-LineWithin t (Line-Value s next) = next ≤ length t
-LineWithin t (Line-Refused f) = Unit {0}
+abbrev pub LineWithin : List ℕ → Result (Signed × ℕ) Refusal → Type 0
+LineWithin t (Ok (s, next)) = next ≤ length t
+LineWithin t (Err f) = Unit {0}

@@ -8,8 +8,8 @@ use Rattle.line_writer.proofs.Spelling.{spells-first}
 use Rattle.line_sentence.proofs.at_jack.Goals as goal
 
 pub and_both-requires : goal.and_both-requires
-and_both-requires c = omega (arith, c.no_text.ensures.len, digits-64 c.args.earlier (search rules))
+and_both-requires c = omega (arith, c.new.ensures.len, digits-64 c.args.earlier (search rules))
 
 pub returns : goal.returns
 unfolding quoted
-returns c = spells-first _ c.and_both.result _ c.no_text.ensures.len c.and_both.ensures
+returns c = spells-first _ c.and_both.result _ c.new.ensures.len c.and_both.ensures

@@ -7,7 +7,7 @@ use Rattle.line_sentence.proofs.other_text.Goals as goal
 
 pub returns-then-earlier-eq0 : goal.returns-then-earlier-eq0
 returns-then-earlier-eq0 c =
-    subst (Spells c.no_text.result) (other-nowhere c.args.number c.args.earlier c.if-earlier-eq0.true) c.no_text.ensures
+    subst (Spells c.new.result) (other-nowhere c.args.number c.args.earlier c.if-earlier-eq0.true) c.new.ensures
 
 pub returns-then-number-eq4 : goal.returns-then-number-eq4
 returns-then-number-eq4 c =
@@ -15,4 +15,4 @@ returns-then-number-eq4 c =
 
 pub returns : goal.returns
 returns c =
-    subst (Spells c.no_text-2.result) (other_none c.args.number c.args.earlier c.if-earlier-eq0.false c.if-number-eq4.false) c.no_text-2.ensures
+    subst (Spells c.new-2.result) (other_none c.args.number c.args.earlier c.if-earlier-eq0.false c.if-number-eq4.false) c.new-2.ensures

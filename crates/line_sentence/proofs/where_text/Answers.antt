@@ -2,7 +2,6 @@
 -- Assumes nothing.
 use mathlib.Core.Path.{subst}
 use mathlib.Core.Logic.{inl, inr}
-use Rattle.listing.proofs.Numbers.{either}
 use Rattle.line_refusal.specs.Words.{quoted}
 use Rattle.line_writer.specs.Answers.{Spells}
 use native.Mathlib.Omega.{arith}
@@ -13,7 +12,7 @@ use Rattle.line_sentence.proofs.where_text.Goals.{in_default-via-then-number-lt1
 
 pub returns-then-place-eq0 : goal.returns-then-place-eq0
 returns-then-place-eq0 c =
-    subst (Spells c.no_text.result) (where-nowhere c.args.number c.args.place c.if-place-eq0.true) c.no_text.ensures
+    subst (Spells c.new.result) (where-nowhere c.args.number c.args.place c.if-place-eq0.true) c.new.ensures
 
 pub returns-in-3-to-5 : goal.returns-in-3-to-5
 unfolding quoted
@@ -34,7 +33,7 @@ pub returns-in_default : goal.returns-in_default
 returns-in_default c =
     let none = where-none c.args.number c.args.place c.if-place-eq0.false in
     elim c.in_default.branch [
-      | in_default-via-then-number-lt1 w ↦ subst (Spells c.no_text-in_default.result) (none (inl (omega arith))) c.no_text-in_default.ensures
+      | in_default-via-then-number-lt1 w ↦ subst (Spells c.new-in_default.result) (none (inl (omega arith))) c.new-in_default.ensures
       | in_default-via-else-number-lt1+else-number-lt3+else-number-lt6+else-number-lt18 w ↦
-          subst (Spells c.no_text-in_default.result) (none (inr (omega arith))) c.no_text-in_default.ensures
+          subst (Spells c.new-in_default.result) (none (inr (omega arith))) c.new-in_default.ensures
     ]

@@ -10,17 +10,17 @@ use Rattle.text_numbers.proofs.Lengths.{digits-64}
 use Rattle.text_keys.specs.Parts.{comma}
 use Rattle.line_writer.proofs.Spelling.{spells-length}
 use Rattle.plan_facts.proofs.pair_line.Goals as goal
-use Rattle.plan_facts.proofs.pair_line.Goals.{After-begun-first}
+use Rattle.plan_facts.proofs.pair_line.Goals.{After-begun}
 
 -- what is spelled of the first number has at most 25 bytes
-first_short : (c : After-begun-first) → c.begun-first.result.len ≤ 25
+first_short : (c : After-begun) → c.begun.result.len ≤ 25
 first_short c =
-    omega (arith, spells-length _ c.args.key.now c.args.a c.begun-first.ensures, digits-64 c.args.a (search rules), c.requires)
+    omega (arith, spells-length _ c.args.key.now c.args.a c.begun.ensures, digits-64 c.args.a (search rules), c.requires)
 
-pub and_both-both-requires : goal.and_both-both-requires
-and_both-both-requires c =
-    omega (arith, first_short (goal.at.and_both-both-requires c).After-begun-first, digits-64 c.args.b (search rules))
+pub and_both-requires : goal.and_both-requires
+and_both-requires c =
+    omega (arith, first_short (goal.at.and_both-requires c).After-begun, digits-64 c.args.b (search rules))
 
 pub and_part-requires : goal.and_part-requires
 and_part-requires c =
-    omega (arith, c.and_both-both.ensures.len, length-append (comma ∷ []) (digits_of c.args.b), first_short (goal.at.and_part-requires c).After-begun-first, digits-64 c.args.b (search rules))
+    omega (arith, c.and_both.ensures.len, length-append (comma ∷ []) (digits_of c.args.b), first_short (goal.at.and_part-requires c).After-begun, digits-64 c.args.b (search rules))

@@ -6,5 +6,5 @@ use Rattle.plan_facts.proofs.run_line.Goals as goal
 pub returns-then-run : goal.returns-then-run
 returns-then-run c = run-back c.args.run _ c.if-run.true c.number_line.ensures
 
-pub returns : goal.returns
-returns c = run_on c.args.run _ c.if-run.false c.number_line-2.ensures
+pub returns-else-run : goal.returns-else-run
+returns-else-run c = run_on c.args.run _ c.if-run.false c.number_line-else-run.ensures

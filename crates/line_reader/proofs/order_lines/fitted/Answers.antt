@@ -8,6 +8,6 @@ use Rattle.line_reader.proofs.order_lines.fitted.Goals as goal
 pub returns-then-in_shape : goal.returns-then-in_shape
 returns-then-in_shape c = fit-good most_ports (Movement c.args.o) (sym c.in_shape.ensures ∙ c.if-in_shape.true)
 
-pub returns : goal.returns
-returns c =
+pub returns-else-in_shape : goal.returns-else-in_shape
+returns-else-in_shape c =
     fit-bad most_ports (Movement c.args.o) (sym c.in_shape.ensures ∙ c.if-in_shape.false)
