@@ -7,7 +7,7 @@ use Prim.Native.Nat.{ℕ, zero, suc, ◌+◌, ◌≤◌, ◌<◌}
 use native.Mathlib.Numerals.{add-one}
 use native.Mathlib.Omega.{arith}
 use lib.ListN.{length, take, set, length-map}
-use lib.Seq.{take-length, length-take-le}
+use lib.Seq.{length-take-le}
 use Rattle.words.specs.Padded.{padded}
 use Rattle.words.proofs.Padded.{padded-set}
 use Rattle.promise.specs.Plan.{Leg, leg_at}
@@ -25,13 +25,10 @@ module _ (c s k : ℕ) (back : Bool) (hs : s < c) (hk : k < c) where
   is-arc f e =
       (ap₂ {C = Arc} (λ x y. record { first = x; many = y }) e (add-one k), (omega (arith, first-listed c back s k hs hk), omega arith))
 
-  -- of a leg that runs backward, and of any other
+  -- of a leg that runs backward
   pub arc-back : back ≡ true → (f : ℕ) → f ≡ backward c s k
       → (record { first = f; many = k + 1 } ≡ arc_of c (record { start = s; back = back; run = k })) × ((f < c) × (k + 1 ≤ c))
   arc-back e f q = is-arc f (q ∙ ap (λ b. first_of c b s k) (sym e))
-
-  pub arc-on : back ≡ false → (record { first = s; many = k + 1 } ≡ arc_of c (record { start = s; back = back; run = k })) × ((s < c) × (k + 1 ≤ c))
-  arc-on e = is-arc s (ap (λ b. first_of c b s k) (sym e))
 
 -- a leg of legs that fit starts and runs below the size
 pub leg-below : (size : ℕ) (ls : List Leg) → EachFits size ls → (i : ℕ) → i < length ls → (l : Leg) → l ≡ leg_at ls i → (l.start < size) × (l.run < size)
@@ -79,7 +76,3 @@ module _ (c : ℕ) (Bs : List Arc) (most : ℕ) where
         ∙ ap (λ j. set (padded most c (take i opened)) j (opening c Bs (arc_of c (leg_at ls i)))) (sym long)
         ∙ padded-set most c (opening c Bs (arc_of c (leg_at ls i))) (take i opened) (omega arith)
         ∙ ap (padded most c) (sym (opened-next ls i h) ∙ ap (λ k. take k opened) (sym (add-one i)))
-
-    -- all legs
-    pub opened-all : (u : List ℕ) (i : ℕ) → i ≡ length ls → u ≡ padded most c (take i opened) → u ≡ padded most c opened
-    opened-all u i h e = e ∙ ap (padded most c) (ap (λ k. take k opened) (h ∙ sym opened-long) ∙ take-length opened)

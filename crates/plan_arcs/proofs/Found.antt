@@ -2,8 +2,7 @@
 -- from rank x on, and both end where there is none. At the end, of a plan within the rules, what was found is what the plan leaves.
 -- Assumes nothing.
 use mathlib.Core.Path.{◌≡◌, refl, sym, ap, subst, ◌∙◌}
-use mathlib.Core.Bool.{true}
-use mathlib.Core.List.{List, [], ◌∷◌, ◌++◌, map}
+use mathlib.Core.List.{List, [], ◌∷◌, ◌++◌}
 use Prim.Native.Nat.{ℕ, suc, ◌+◌, ◌-◌, ◌≤◌, ◌<◌}
 use native.Mathlib.Numerals.{add-one}
 use native.Mathlib.Omega.{arith}
@@ -13,12 +12,11 @@ use Rattle.listing.specs.Count.{count}
 use Rattle.listing.specs.Limits.{most_legs}
 use Rattle.words.specs.Padded.{padded}
 use Rattle.line_format.specs.Calls.{over}
-use Rattle.promise.specs.Plan.{Leg}
 use Rattle.promise.specs.Derangements.{derangements}
 use Rattle.promise_arcs.specs.Gaps.{Arc, total}
 use Rattle.promise_arcs.specs.Named.{many_named, numbers}
 use Rattle.promise_arcs.specs.Finding.{arc_of, nearest, openings, lowest, gaps_on, gaps_between}
-use Rattle.promise_arcs.proofs.Finding.{next, next-on, few-gaps}
+use Rattle.promise_arcs.proofs.Finding.{next, few-gaps}
 use Rattle.promise_arcs.proofs.Loops.{on-found, on_none, lowest-padded}
 use Rattle.promise_arcs.proofs.Named.{found-on, named-on}
 use Rattle.plan_rules.specs.Planned.{device}

@@ -1,14 +1,14 @@
 // The gaps of a plan: counted, with the ranks that they leave named, and written into a lent slice.
-ghost use Rattle.std.specs.Prelude.{◌≡◌, true, ◌≤◌, length};
+ghost use Rattle.std.specs.Prelude.{◌≡◌, ◌≤◌, length, MatchOption};
+ghost use Rattle.listing.specs.Limits.{most_legs};
+ghost use Rattle.words.specs.Padded.{padded};
+ghost use Rattle.promise_arcs.specs.Finding as found;
 ghost use Rattle.promise_arcs.specs.Named.{numbers};
-ghost use Rattle.plan_rules.specs.Planned.{device};
-ghost use Rattle.plan_rules.specs.Rules.{plan_ruled};
 ghost use Rattle.line_format.specs.Calls.{over};
-ghost use Rattle.plan_arcs.specs.Arcs.{Tallies, gaps_in};
+ghost use Rattle.plan_arcs.specs.Arcs.{Tallies, gaps_in, arcs_of, gap_first, GapIs};
 
-use crate::finding::{lowest, nearest, openings};
-use pattern_steps::counts::count_of;
-use plan_rules::Plan;
+use crate::finding::{Arc, Circuit, lowest};
+use plan_rules::ruled::RuledPlan;
 
 // JIDROFEX_GAP_NUMBERS: enough numbers for the gaps of any plan. Round a circuit two for each leg are; there is room for one gap more.
 pub const GAP_NUMBERS: usize = 34;
@@ -20,47 +20,52 @@ pub struct Tally {
     pub gaps: u64,
 }
 
-// The ranks named and the gaps, counted: each gap takes its ranks off the circuit's.
-pub fn count_named(p: Plan) -> Tally
-    requires { plan_ruled device p ≡ true }
-    ensures { Tallies p result }
+// The next gap from rank x on, if there is one.
+fn gap_from(circuit: Circuit, starts: &[u64], x: u64) -> Option<Arc>
+    requires { starts.now ≡ padded most_legs circuit.size (found.openings circuit.size (arcs_of circuit.size circuit.ruled.plan)) }
+    ensures { let c = circuit.size in MatchOption result (c ≤ gap_first c circuit.ruled.plan x) (λ g. GapIs c circuit.ruled.plan x g) }
 {
-    let c = count_of(p.ports);
-    let starts = openings(p, c);
-    let mut left = c;
-    let mut gaps: u64 = 0;
-    let mut x: u64 = 0;
-    loop {
-        let e = lowest(c, &starts, x);
-        if c <= e {
-            return Tally {
-                named: left,
-                gaps: gaps,
-            };
-        }
-        left -= nearest(p, c, e);
-        gaps += 1;
-        x = e + 1;
+    let first = lowest(circuit.size, starts, x);
+    if first < circuit.size {
+        Some(Arc {
+            first,
+            many: circuit.nearest(first),
+        })
+    } else {
+        None
     }
 }
 
-// The gaps at the front of a slice, two numbers for each.
-pub fn put_gaps(p: Plan, out: &mut [u64])
-    requires { (plan_ruled device p ≡ true) × (length (numbers (gaps_in p)) ≤ length out.old) }
-    ensures { out.new ≡ over (numbers (gaps_in p)) out.old }
+// The ranks named and the gaps, counted: each gap takes its ranks off the circuit's.
+pub fn count_named(p: RuledPlan) -> Tally
+    ensures { Tallies p.plan result }
 {
-    let c = count_of(p.ports);
-    let starts = openings(p, c);
+    let circuit = Circuit::of(p);
+    let starts = circuit.openings();
+    let mut left = circuit.size;
+    let mut gaps: u64 = 0;
+    let mut x: u64 = 0;
+    while let Some(gap) = gap_from(circuit, &starts, x) {
+        left -= gap.many;
+        gaps += 1;
+        x = gap.first + 1;
+    }
+    Tally { named: left, gaps }
+}
+
+// The gaps at the front of a slice, two numbers for each.
+pub fn put_gaps(p: RuledPlan, out: &mut [u64])
+    requires { length (numbers (gaps_in p.plan)) ≤ length out.old }
+    ensures { out.new ≡ over (numbers (gaps_in p.plan)) out.old }
+{
+    let circuit = Circuit::of(p);
+    let starts = circuit.openings();
     let mut at: usize = 0;
     let mut x: u64 = 0;
-    loop {
-        let e = lowest(c, &starts, x);
-        if c <= e {
-            return;
-        }
-        out[at] = e;
-        out[at + 1] = nearest(p, c, e);
+    while let Some(gap) = gap_from(circuit, &starts, x) {
+        out[at] = gap.first;
+        out[at + 1] = gap.many;
         at += 2;
-        x = e + 1;
+        x = gap.first + 1;
     }
 }

@@ -1,16 +1,16 @@
 -- What the call tells and leaves, case by case: of a plan, 2 (`no_room`) or the tally with the gaps in front (`room`); of a text, its refusal with every number kept
 -- (`text-refused`), or what is so of its plan (`text-read`).
 -- Assumes nothing.
-use mathlib.Core.Path.{◌≡◌, refl, sym, ap, ap₂, ◌∙◌}
+use mathlib.Core.Path.{◌≡◌, refl, sym, ap, ap₂}
 use mathlib.Core.List.{List}
 use Prim.Native.Nat.{ℕ, ◌*◌, ◌≤◌, ◌<◌}
 use native.Mathlib.Omega.{arith}
 use lib.ListN.{length}
 use Rattle.words.specs.Told.{Spot, nowhere, Told, accepted, refused, then}
 use Rattle.words.proofs.Told.{not-both}
-use Rattle.line_format.specs.Calls.{room_of, over, room_bytes}
+use Rattle.line_format.specs.Calls.{over}
 use Rattle.line_format.proofs.Written.{text-room, text-front}
-use Rattle.promise_arcs.specs.Named.{many_named, numbers}
+use Rattle.promise_arcs.specs.Named.{numbers}
 use Rattle.promise_arcs.proofs.Named.{length-numbers}
 use Rattle.plan_rules.specs.Planned.{Planned}
 use Rattle.plan_rules.specs.Places.{planned_of}

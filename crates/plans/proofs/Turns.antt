@@ -16,10 +16,9 @@ use Rattle.plans.specs.Reading.{leg_in, ended, preceded, legs_in, with_ports}
 use Rattle.plans.specs.Answers.{Answers}
 use Rattle.words.specs.Padded.{padded}
 use Rattle.plan_rules.specs.Places.{placed}
-use Rattle.words.specs.declared.Outcome.TheVariants.{Accepted}
-use Rattle.plans.specs.declared.ReadPlan.{ReadPlan}
 use Rattle.plans.proofs.Legs.{legs-on, legs-refused}
 use Rattle.words.proofs.Padded.{padded-set}
+use Rattle.std.specs.declared.result.Result.TheVariants.{Ok}
 
 -- ---- places
 
@@ -111,16 +110,15 @@ module _ (largest size most legs line : ℕ) (text : List ℕ) where
         R.told ∙ ap (λ k. preceded R.read (legs_in largest size k (line + 2 * done) rest)) a ∙ ap (λ k. preceded R.read (ended (line + 2 * k) rest)) h
 
     -- what the reader answers, for n ranks
-    module _ (ports n : ℕ) (z : size ≡ n) (r : ReadPlan) where
+    module _ (ports n : ℕ) (z : size ≡ n) where
       -- the refusal of a leg
-      pub leg-refused : (k : ℕ) (s : Spot) → done < legs → refused k s ≡ leg_in largest size (line + 2 * done) rest → Answers most (refused k s) r
-          → Answers most (with_ports ports (legs_in largest n legs line text)) r
-      leg-refused k s h e x = rw (sym z, refused-there k s h e) x
+      pub leg-refused : (k : ℕ) (s : Spot) → done < legs → refused k s ≡ leg_in largest size (line + 2 * done) rest
+          → refused k s ≡ with_ports ports (legs_in largest n legs line text)
+      leg-refused k s h e = rw (sym z, refused-there k s h e)
 
       -- a byte after the last line is 11, at the line that it begins
-      pub byte-after : done ≡ legs → 0 < length rest → Answers most (refused 11 (at_line (line + 2 * legs))) r
-          → Answers most (with_ports ports (legs_in largest n legs line text)) r
-      byte-after h l x = rw (sym z, last h, went_on rest l) x
+      pub byte-after : done ≡ legs → 0 < length rest → refused 11 (at_line (line + 2 * legs)) ≡ with_ports ports (legs_in largest n legs line text)
+      byte-after h l = rw (sym z, last h, went_on rest l)
         where
           went_on : (t : List ℕ) → 0 < length t → ended (line + 2 * legs) t ≡ refused 11 (at_line (line + 2 * legs))
           went_on [] l = absurd (omega arith)
@@ -128,14 +126,14 @@ module _ (largest size most legs line : ℕ) (text : List ℕ) where
 
       -- no byte after it: the plan
       pub plan-read : done ≡ legs → length rest ≤ 0
-          → r ≡ record { judged = Accepted; plan = record { ports = ports; legs = legs; starts = starts; runs = runs } }
-          → Answers most (with_ports ports (legs_in largest n legs line text)) r
+          → Answers most (with_ports ports (legs_in largest n legs line text))
+          (record { judged = Ok tt; plan = record { ports = ports; legs = legs; starts = starts; runs = runs } })
       unfolding placed
-      plan-read h l e =
+      plan-read h l =
           let m : legs ≡ length R.read = sym (R.many ∙ h) in
           let all : legs_in largest size legs line text ≡ accepted R.read =
           last h ∙ ap (preceded R.read) (at-end rest l) ∙ ap accepted (append-nil R.read) in
-          rw (e, sym z, all)
+          rw (sym z, all)
           (record { judged = refl; plan = λ i. record { ports = ports; legs = m i; starts = R.in_starts i; runs = R.in_runs i } })
         where
           at-end : (t : List ℕ) → length t ≤ 0 → ended (line + 2 * legs) t ≡ accepted []

@@ -2,13 +2,13 @@
 #![tactic(auto)]
 
 use plan_rules::Plan;
-use words::Outcome;
+use words::Refusal;
 
 pub mod reading;
 
-// A text judged, and the plan that it is: all zeros if it was refused.
+// A text judged, and the plan that it is: all zeros if it was refused, which `demands.Refusals.refused-zeros` and the calls for C speak of.
 #[derive(Clone, Copy)]
 pub struct ReadPlan {
-    pub judged: Outcome,
+    pub judged: Result<(), Refusal>,
     pub plan: Plan,
 }

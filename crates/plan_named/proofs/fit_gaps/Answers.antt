@@ -17,24 +17,24 @@ use Rattle.plan_named.proofs.fit_gaps.Goals as goal
 
 pub overflow_mul-tally : goal.overflow_mul-tally
 overflow_mul-tally c =
-    omega (arith, c.count_named-tally.ensures.gaps, left-few c.args.plan (ruled device c.args.plan (search rules) (search rules) c.requires))
+    omega (arith, c.count_named-tally.ensures.gaps, left-few c.args.ruled.plan (ruled device c.args.ruled.plan (search rules) (search rules) c.args.ruled.ruled))
 
 pub returns-then-gaps-tally-clause-answer : goal.returns-then-gaps-tally-clause-answer
-returns-then-gaps-tally-clause-answer c = let w = no-room (planned_of c.args.plan) c.args.gaps.now (omega (arith, c.count_named-tally.ensures.gaps)) in
+returns-then-gaps-tally-clause-answer c = let w = no-room (planned_of c.args.ruled.plan) c.args.gaps.now (omega (arith, c.count_named-tally.ensures.gaps)) in
     ap (refusal_of {A = Names}) c.nowhere.ensures ∙ w.0
 
 pub returns-then-gaps-tally-clause-numbers : goal.returns-then-gaps-tally-clause-numbers
-returns-then-gaps-tally-clause-numbers c = let w = no-room (planned_of c.args.plan) c.args.gaps.now (omega (arith, c.count_named-tally.ensures.gaps)) in
+returns-then-gaps-tally-clause-numbers c = let w = no-room (planned_of c.args.ruled.plan) c.args.gaps.now (omega (arith, c.count_named-tally.ensures.gaps)) in
     w.1
 
 pub put_gaps-requires : goal.put_gaps-requires
 put_gaps-requires c =
-    (c.requires, omega (arith, length-numbers (gaps_in c.args.plan), c.count_named-tally.ensures.gaps))
+    omega (arith, length-numbers (gaps_in c.args.ruled.plan), c.count_named-tally.ensures.gaps)
 
 pub returns-clause-answer : goal.returns-clause-answer
-returns-clause-answer c = let w = room (planned_of c.args.plan) c.args.gaps.now (omega (arith, c.count_named-tally.ensures.gaps)) in
-    ap accepted (tally-names c.args.plan _ c.count_named-tally.ensures) ∙ w.0
+returns-clause-answer c = let w = room (planned_of c.args.ruled.plan) c.args.gaps.now (omega (arith, c.count_named-tally.ensures.gaps)) in
+    ap accepted (tally-names c.args.ruled.plan _ c.count_named-tally.ensures) ∙ w.0
 
 pub returns-clause-numbers : goal.returns-clause-numbers
-returns-clause-numbers c = let w = room (planned_of c.args.plan) c.args.gaps.now (omega (arith, c.count_named-tally.ensures.gaps)) in
+returns-clause-numbers c = let w = room (planned_of c.args.ruled.plan) c.args.gaps.now (omega (arith, c.count_named-tally.ensures.gaps)) in
     c.put_gaps.ensures ∙ w.1

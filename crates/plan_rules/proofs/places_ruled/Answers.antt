@@ -1,6 +1,5 @@
 -- `plan_rules::places_ruled` asks of each place what the definition asks: those before `at` are right, so those from there on decide.
 use mathlib.Core.Path.{◌≡◌, sym, ap, ◌∙◌}
-use Prim.Native.Nat.{◌-◌}
 use lib.IntN.{pos}
 use lib.ListN.{get_or}
 use mir.Syntax.{w64}
@@ -22,13 +21,13 @@ asked c =
 pub loop-at-preserved : goal.loop-at-preserved
 loop-at-preserved c =
     c.loop-at.invariant
-    ∙ place-right c.args.size c.args.p.legs 16 c.args.p.starts c.args.p.runs (search rules) (search rules) c.loop-at.at (search rules) (sym (asked (goal.at.loop-at-preserved c).After-place_ruled) ∙ c.if-place_ruled.true)
+    ∙ place-right c.args.size c.args.p.legs 16 c.args.p.starts c.args.p.runs (search rules) (search rules) c.loop-at.at (search rules) (sym (asked (goal.at.loop-at-preserved c).After-place_ruled) ∙ c.if-not-place_ruled.false)
 
-pub returns-else-place_ruled : goal.returns-else-place_ruled
-returns-else-place_ruled c =
+pub returns-then-not-place_ruled : goal.returns-then-not-place_ruled
+returns-then-not-place_ruled c =
     sym
     (c.loop-at.invariant
-    ∙ place-wrong c.args.size c.args.p.legs 16 c.args.p.starts c.args.p.runs (search rules) (search rules) c.loop-at.at (search rules) (sym (asked (goal.at.returns-else-place_ruled c).After-place_ruled) ∙ c.if-place_ruled.false))
+    ∙ place-wrong c.args.size c.args.p.legs 16 c.args.p.starts c.args.p.runs (search rules) (search rules) c.loop-at.at (search rules) (sym (asked (goal.at.returns-then-not-place_ruled c).After-place_ruled) ∙ c.if-not-place_ruled.true))
 
 pub returns : goal.returns
 returns c =

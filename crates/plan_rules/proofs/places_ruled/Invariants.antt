@@ -8,7 +8,4 @@ use Rattle.plan_rules.proofs.places_ruled.Given as goal
 
 abbrev pub invariant-loop-at : goal.invariant-loop-at
 invariant-loop-at l =
-    places_ruled l.size l.legs (legs_held (length l.starts) l.starts l.runs) ≡ places_ruled l.size (l.legs - l.at) (drop l.at (legs_held (length l.starts) l.starts l.runs))
-
-abbrev pub decreases-loop-at : goal.decreases-loop-at
-decreases-loop-at l = 16 - l.at
+    places_ruled l.size l.legs (legs_held (length l.p.starts) l.p.starts l.p.runs) ≡ places_ruled l.size (l.legs - l.at) (drop l.at (legs_held (length l.p.starts) l.p.starts l.p.runs))

@@ -8,5 +8,5 @@ use Rattle.plan_arcs.proofs.circle.ahead.Goals as goal
 pub returns-then-a-r : goal.returns-then-a-r
 returns-then-a-r c = either (ahead-cases c.args.c c.args.a c.args.r (omega arith)) (λ w. omega arith) (λ w. omega arith)
 
-pub returns : goal.returns
-returns c = either (ahead-cases c.args.c c.args.a c.args.r (omega arith)) (λ w. omega arith) (λ w. omega arith)
+pub returns-else-a-r : goal.returns-else-a-r
+returns-else-a-r c = either (ahead-cases c.args.c c.args.a c.args.r (omega arith)) (λ w. omega arith) (λ w. omega arith)

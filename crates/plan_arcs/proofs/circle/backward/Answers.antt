@@ -8,5 +8,5 @@ use Rattle.plan_arcs.proofs.circle.backward.Goals as goal
 pub returns-then-i-a : goal.returns-then-i-a
 returns-then-i-a c = either (backward-cases c.args.c c.args.a c.args.i (omega arith)) (λ w. omega arith) (λ w. omega arith)
 
-pub returns : goal.returns
-returns c = either (backward-cases c.args.c c.args.a c.args.i (omega arith)) (λ w. omega arith) (λ w. omega arith)
+pub returns-else-i-a : goal.returns-else-i-a
+returns-else-i-a c = either (backward-cases c.args.c c.args.a c.args.i (omega arith)) (λ w. omega arith) (λ w. omega arith)

@@ -8,5 +8,5 @@ use Rattle.plan_arcs.proofs.circle.onward.Goals as goal
 pub returns-then-i-c : goal.returns-then-i-c
 returns-then-i-c c = either (onward-cases c.args.c c.args.a c.args.i) (λ w. omega arith) (λ w. omega arith)
 
-pub returns : goal.returns
-returns c = either (onward-cases c.args.c c.args.a c.args.i) (λ w. omega arith) (λ w. omega arith)
+pub returns-else-i-c : goal.returns-else-i-c
+returns-else-i-c c = either (onward-cases c.args.c c.args.a c.args.i) (λ w. omega arith) (λ w. omega arith)

@@ -1,7 +1,6 @@
 -- `plan_arcs::finding::lowest`: `low` is the lowest of the places from i on.
 -- Assumes nothing.
 use mathlib.Core.Path.{refl, ap, ◌∙◌}
-use Prim.Native.Nat.{◌-◌}
 use borrow.Author.Rules.{rules}
 use Rattle.promise_arcs.specs.Finding.{lesser}
 use Rattle.plan_arcs.proofs.Loops.{lowest-none, lowest-here, lowest-past}

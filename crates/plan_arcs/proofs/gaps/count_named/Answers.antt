@@ -1,67 +1,58 @@
 -- `plan_arcs::gaps::count_named`: the gaps before rank x are counted, and their ranks taken off the circuit's.
 -- Assumes nothing.
-use mathlib.Core.Path.{◌≡◌, sym, ap, subst, ◌∙◌}
-use Prim.Native.Nat.{◌-◌, ◌≤◌, ◌<◌, ◌+◌}
+use mathlib.Core.Path.{sym, subst}
+use Prim.Native.Nat.{◌-◌, ◌≤◌, ◌+◌}
 use native.Mathlib.Omega.{arith}
 use borrow.Author.Rules.{rules}
 use Rattle.listing.specs.Limits.{most_legs}
-use Rattle.promise_arcs.specs.Finding.{nearest}
-use Rattle.promise_arcs.proofs.Finding.{next, next-on}
+use Rattle.promise_arcs.proofs.Finding.{next-on}
 use Rattle.plan_rules.specs.Planned.{device}
 use Rattle.plan_rules.proofs.Rules.{ruled}
-use Rattle.plan_arcs.specs.Arcs.{arcs_of}
-use Rattle.plan_arcs.proofs.Found.{next-is, Counting, counting-none, counted, takes-off, counts-on, counting_more, ranks-fit, gaps-few, tallies}
+use Rattle.plan_arcs.specs.Arcs.{arcs_of, GapIs, Tallies}
+use Rattle.plan_arcs.proofs.Found.{Counting, counting-none, counted, takes-off, counts-on, counting_more, ranks-fit, gaps-few, tallies}
 use Rattle.plan_arcs.proofs.gaps.count_named.Goals as goal
-use Rattle.plan_arcs.proofs.gaps.count_named.Goals.{After-lowest-e, After-nearest-left}
+use Rattle.plan_arcs.proofs.gaps.count_named.Goals.{In-Some}
 
--- the rank that was found is the first of the next gap
-found : (c : After-lowest-e)
-    → c.lowest-e.result ≡ next c.count_of-c.result (arcs_of c.count_of-c.result c.args.p) c.loop-p.x
-found c =
-    next-is c.count_of-c.result (arcs_of c.count_of-c.result c.args.p) most_legs _ c.loop-p.x _ c.openings-starts.ensures c.lowest-e.ensures
-
--- with that gap: what it takes off is there, it is one more, and what is kept goes on
-abbrev Goes : After-nearest-left → Type 0
+-- with the next gap: what it takes off is there, it is one more, and what is kept goes on
+abbrev Goes : In-Some → Type 0
 Goes c =
-    (c.nearest-left.result ≤ c.loop-p.left)
-    × (c.loop-p.gaps + 1 ≤ most_legs)
-    × (c.loop-p.x ≤ c.lowest-e.result)
-    × Counting c.count_of-c.result (arcs_of c.count_of-c.result c.args.p) (c.loop-p.left - c.nearest-left.result) (c.loop-p.gaps + 1) (c.lowest-e.result + 1)
+    (c.in-Some.gap.many ≤ c.loop-gap.left)
+    × (c.loop-gap.gaps + 1 ≤ most_legs)
+    × (c.loop-gap.x ≤ c.in-Some.gap.first)
+    × Counting c.of-circuit.result.size (arcs_of c.of-circuit.result.size c.of-circuit.result.ruled.plan) (c.loop-gap.left - c.in-Some.gap.many) (c.loop-gap.gaps + 1) (c.in-Some.gap.first + 1)
 
-goes : (c : After-nearest-left) → Goes c
+goes : (c : In-Some) → Goes c
 goes c =
-    let As = arcs_of c.count_of-c.result c.args.p in
-    let e = found c.before.before in
-    let below : next c.count_of-c.result As c.loop-p.x < c.count_of-c.result = omega arith in
-    let near = c.nearest-left.ensures ∙ ap (nearest c.count_of-c.result As) e in
-    let fits = ranks-fit c.args.p c.count_of-c.result c.count_of-c.ensures c.loop-p.invariant.1 in (
-      takes-off c.count_of-c.result As c.loop-p.left c.loop-p.gaps c.loop-p.x _ c.loop-p.invariant.0 below near fits,
-      omega (arith, counts-on c.count_of-c.result As c.loop-p.left c.loop-p.gaps c.loop-p.x _ c.loop-p.invariant.0 below near, gaps-few c.args.p c.count_of-c.result c.count_of-c.ensures c.loop-p.invariant.1),
-      omega (arith, next-on c.count_of-c.result As c.loop-p.x below),
-      subst (λ y. Counting c.count_of-c.result As (c.loop-p.left - c.nearest-left.result) (c.loop-p.gaps + 1) (y + 1)) (sym e)
-          (counting_more c.count_of-c.result As c.loop-p.left c.loop-p.gaps c.loop-p.x _ c.loop-p.invariant.0 below near fits),
+    let As = arcs_of c.of-circuit.result.size c.of-circuit.result.ruled.plan in
+    let g : GapIs c.of-circuit.result.size c.of-circuit.result.ruled.plan c.loop-gap.x c.in-Some.gap = c.in-Some.ensures in
+    let fits = ranks-fit c.of-circuit.result.ruled.plan c.of-circuit.result.size c.of-circuit.result.sized c.loop-gap.invariant.1 in (
+      takes-off c.of-circuit.result.size As c.loop-gap.left c.loop-gap.gaps c.loop-gap.x _ c.loop-gap.invariant.0 g.below g.many fits,
+      omega (arith, counts-on c.of-circuit.result.size As c.loop-gap.left c.loop-gap.gaps c.loop-gap.x _ c.loop-gap.invariant.0 g.below g.many, gaps-few c.of-circuit.result.ruled.plan c.of-circuit.result.size c.of-circuit.result.sized c.loop-gap.invariant.1),
+      omega (arith, next-on c.of-circuit.result.size As c.loop-gap.x g.below, g.first),
+      subst (λ y. Counting c.of-circuit.result.size As (c.loop-gap.left - c.in-Some.gap.many) (c.loop-gap.gaps + 1) (y + 1)) (sym g.first)
+          (counting_more c.of-circuit.result.size As c.loop-gap.left c.loop-gap.gaps c.loop-gap.x _ c.loop-gap.invariant.0 g.below g.many fits),
     )
 
-pub count_of-c-requires : goal.count_of-c-requires
-count_of-c-requires c = (ruled device c.args.p (search rules) (search rules) c.requires).fits.many_ports
+pub loop-gap-init : goal.loop-gap-init
+loop-gap-init c =
+    (counting-none c.of-circuit.result.size (arcs_of c.of-circuit.result.size c.of-circuit.result.ruled.plan), ruled device c.of-circuit.result.ruled.plan (search rules) (search rules) c.of-circuit.result.ruled.ruled)
 
-pub loop-p-init : goal.loop-p-init
-loop-p-init c =
-    (counting-none c.count_of-c.result (arcs_of c.count_of-c.result c.args.p), ruled device c.args.p (search rules) (search rules) c.requires)
-
-pub returns-then-c-e : goal.returns-then-c-e
-returns-then-c-e c =
-    tallies c.args.p c.count_of-c.result c.count_of-c.ensures c.loop-p.invariant.1 _
-    (counted c.count_of-c.result (arcs_of c.count_of-c.result c.args.p) c.loop-p.left c.loop-p.gaps c.loop-p.x c.loop-p.invariant.0 (omega (arith, found (goal.at.returns-then-c-e c).After-lowest-e)))
+pub returns : goal.returns
+returns c =
+    subst (λ p. Tallies p.plan (record { named = c.loop-gap.left; gaps = c.loop-gap.gaps })) c.of-circuit.ensures
+    (tallies c.of-circuit.result.ruled.plan c.of-circuit.result.size c.of-circuit.result.sized c.loop-gap.invariant.1 _
+    (counted c.of-circuit.result.size (arcs_of c.of-circuit.result.size c.of-circuit.result.ruled.plan) c.loop-gap.left c.loop-gap.gaps c.loop-gap.x c.loop-gap.invariant.0 c.in_default.ensures))
 
 pub overflow_sub-left : goal.overflow_sub-left
-overflow_sub-left c = omega (arith, (goes c).0)
+overflow_sub-left c = (goes (goal.at.overflow_sub-left c).In-Some).0
 
 pub overflow_add-gaps : goal.overflow_add-gaps
-overflow_add-gaps c = omega (arith, (goes c).1)
+overflow_add-gaps c = omega (arith, (goes (goal.at.overflow_add-gaps c).In-Some).1)
 
-pub loop-p-smaller : goal.loop-p-smaller
-loop-p-smaller c = omega (arith, (goes c).2)
+pub loop-gap-smaller : goal.loop-gap-smaller
+loop-gap-smaller c =
+    let g : GapIs c.of-circuit.result.size c.of-circuit.result.ruled.plan c.loop-gap.x c.in-Some.gap = c.in-Some.ensures in
+    omega (arith, (goes (goal.at.loop-gap-smaller c).In-Some).2, g.below, g.first)
 
-pub loop-p-preserved : goal.loop-p-preserved
-loop-p-preserved c = ((goes c).3, c.loop-p.invariant.1)
+pub loop-gap-preserved : goal.loop-gap-preserved
+loop-gap-preserved c = ((goes (goal.at.loop-gap-preserved c).In-Some).3, c.loop-gap.invariant.1)

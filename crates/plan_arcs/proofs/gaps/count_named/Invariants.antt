@@ -7,8 +7,8 @@ use Rattle.plan_arcs.specs.Arcs.{arcs_of}
 use Rattle.plan_arcs.proofs.Found.{Counting}
 use Rattle.plan_arcs.proofs.gaps.count_named.Given as goal
 
-abbrev pub invariant-loop-p : goal.invariant-loop-p
-invariant-loop-p l = Counting l.c (arcs_of l.c l.p) l.left l.gaps l.x × Ruled device l.p
+abbrev pub invariant-loop-gap : goal.invariant-loop-gap
+invariant-loop-gap l = Counting l.circuit.size (arcs_of l.circuit.size l.circuit.ruled.plan) l.left l.gaps l.x × Ruled device l.circuit.ruled.plan
 
-abbrev pub decreases-loop-p : goal.decreases-loop-p
-decreases-loop-p l = l.c - l.x
+abbrev pub decreases-loop-gap : goal.decreases-loop-gap
+decreases-loop-gap l = l.circuit.size - l.x

@@ -9,8 +9,8 @@ use Rattle.plan_arcs.specs.Arcs.{arcs_of}
 use Rattle.plan_arcs.proofs.Found.{Writing}
 use Rattle.plan_arcs.proofs.gaps.put_gaps.Given as goal
 
-abbrev pub invariant-loop-p : goal.invariant-loop-p
-invariant-loop-p l = Writing l.c (arcs_of l.c l.p) l.initial.out l.out l.at l.x × Ruled device l.p × (length l.out ≡ length l.initial.out)
+abbrev pub invariant-loop-gap : goal.invariant-loop-gap
+invariant-loop-gap l = Writing l.circuit.size (arcs_of l.circuit.size l.circuit.ruled.plan) l.initial.out l.out l.at l.x × Ruled device l.circuit.ruled.plan × (length l.out ≡ length l.initial.out)
 
-abbrev pub decreases-loop-p : goal.decreases-loop-p
-decreases-loop-p l = l.c - l.x
+abbrev pub decreases-loop-gap : goal.decreases-loop-gap
+decreases-loop-gap l = l.circuit.size - l.x

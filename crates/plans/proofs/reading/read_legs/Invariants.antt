@@ -1,5 +1,5 @@
 -- `plans::reading::read_legs`: the legs read so far stand in the first places, and the text from `at` on decides.
-use Prim.Native.Nat.{◌-◌, ◌≤◌}
+use Prim.Native.Nat.{◌≤◌}
 use lib.ListN.{length, drop}
 use Rattle.listing.specs.Limits.{most_legs, largest64}
 use Rattle.plans.proofs.Turns.{Read}
@@ -7,7 +7,4 @@ use Rattle.plans.proofs.reading.read_legs.Given as goal
 
 abbrev pub invariant-loop-done : goal.invariant-loop-done
 invariant-loop-done l =
-    (l.done ≤ l.legs) × (l.at ≤ length l.text) × Read largest64 l.count most_legs l.legs 3 (drop l.from l.text) l.starts l.runs (drop l.at l.text) l.done
-
-abbrev pub decreases-loop-done : goal.decreases-loop-done
-decreases-loop-done l = l.legs - l.done
+    (l.at ≤ length l.text) × Read largest64 l.count most_legs l.legs 3 (drop l.from l.text) l.starts l.runs (drop l.at l.text) l.done
