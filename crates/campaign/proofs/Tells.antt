@@ -12,7 +12,8 @@ use borrow.Author.Tests.{ltb-false}
 use Rattle.words.specs.Told.{Told, Spot, accepted, refused, nowhere}
 use Rattle.words.specs.Meaning.{number_of}
 use Rattle.words.specs.declared.Jack.{Jack}
-use Rattle.words.specs.declared.Line.TheVariants.{Seat, Mark, End}
+use Rattle.words.specs.declared.Line.{Line}
+use Rattle.words.specs.declared.Line.TheVariants.{Movement, Seat, Mark, End}
 use Rattle.words.specs.declared.Reason.{Reason}
 use Rattle.words.specs.declared.Place.TheVariants.{Nowhere}
 use Rattle.words.proofs.Told.{not-both}
@@ -28,14 +29,13 @@ use Rattle.campaign.specs.Calls.{answer_of, told_of, after, left_of, bytes_of, l
 use Rattle.campaign.specs.Answers.{answer_told, heard_told, RequestIs, ReportIs, UnheardIs}
 use Rattle.campaign.specs.declared.Requested.{Requested}
 use Rattle.campaign.specs.declared.Reported.{Reported}
-use Rattle.campaign.specs.declared.Answer.TheVariants.{Refused as Answer-Refused}
-use Rattle.words.specs.declared.Outcome.TheVariants.{Accepted, Refused}
 use Rattle.campaign.proofs.Moments.{made, panel-stays, moment-stays, refusal-leaves}
+use Rattle.std.specs.declared.result.Result.TheVariants.{Ok, Err}
 
 module _ (c : Call) (a : model.Answer) (s : State) where
   -- a refused request
   pub request-refused : (r : Requested) (why : Reason) (k : ℕ)
-      → r ≡ record { campaign = record { state = s }; answer = Answer-Refused (record { reason = why; place = Nowhere }); written = 0 }
+      → r ≡ record { campaign = record { state = s }; answer = Err (record { reason = why; place = Nowhere }); written = 0 }
       → number_of why ≡ k → a ≡ refusal k → RequestIs c a s r
   request-refused r why k e n f = record {
     answer = ap (λ x. answer_told x.answer) e ∙ ap (λ j. refused j nowhere) n ∙ ap told_of (sym f);
@@ -45,7 +45,7 @@ module _ (c : Call) (a : model.Answer) (s : State) where
 
   -- a refused report
   pub report-refused : (r : Reported) (why : Reason) (k : ℕ)
-      → r ≡ record { campaign = record { state = s }; answer = Refused (record { reason = why; place = Nowhere }) }
+      → r ≡ record { campaign = record { state = s }; answer = Err (record { reason = why; place = Nowhere }) }
       → number_of why ≡ k → a ≡ refusal k → ReportIs c a s r
   report-refused r why k e n f = record {
     answer = ap (λ x. heard_told x.answer) e ∙ ap (λ j. refused j nowhere) n ∙ ap told_of (sym f);
@@ -53,7 +53,7 @@ module _ (c : Call) (a : model.Answer) (s : State) where
   }
 
   -- a report that is taken
-  pub report-taken : (r : Reported) (t : State) → r ≡ record { campaign = record { state = t }; answer = Accepted } → a ≡ taken → t ≡ after c taken s
+  pub report-taken : (r : Reported) (t : State) → r ≡ record { campaign = record { state = t }; answer = Ok tt } → a ≡ taken → t ≡ after c taken s
       → ReportIs c a s r
   report-taken r t e f g = record {
     answer = ap (λ x. heard_told x.answer) e ∙ ap told_of (sym f);
@@ -101,6 +101,12 @@ unfolding left_of
 left_so c s e = e
 
 -- a line that was handed out
+pub line-told : (l : Line) → answer_told (Ok l) ≡ told_of (line_is l)
+line-told (Movement o) = refl
+line-told (Seat j) = refl
+line-told (Mark k r) = refl
+line-told (End k) = refl
+
 pub line-leaves-seat : (j : Jack) (s : State) (k : ℕ) → k ≡ model.seat_after s.plan.ports j.0
     → made s s.leg s.step s.covered s.opened s.errors s.standing s.ended k s.panel ≡ after (request 0) (line_is (Seat j)) s
 unfolding model.after derangements

@@ -3,39 +3,35 @@
 use Rattle.std.specs.Prelude.{ℕ, ◌≡◌, false, List}
 use Rattle.std.proofs.Math.Option.{Option, none, some}
 use Rattle.words.specs.Told.{Told, accepted, then}
-use Rattle.words.specs.Meaning.{order_of, refusal_of, outcome_told}
+use Rattle.words.specs.Meaning as meaning
+use Rattle.words.specs.Meaning.{outcome_told}
 use Rattle.promise.specs.Campaign as model
-use Rattle.promise.specs.Campaign.{Call, report_to, movement, seat, mark, the_end, taken, stands_for}
+use Rattle.promise.specs.Campaign.{Call, report_to, taken, stands_for}
 use Rattle.plans.specs.Calls.{read_plan_of}
 use Rattle.campaign_state.specs.State.{width, setting_of, moment_of}
 use Rattle.campaign_state.specs.declared.State.{State}
-use Rattle.campaign.specs.Calls.{answer_of, told_of, after, begun_of}
+use Rattle.campaign.specs.Calls.{answer_of, told_of, after, begun_of, line_is}
 use Rattle.campaign.specs.declared.Begun.{Begun}
 use Rattle.campaign.specs.declared.Requested.{Requested}
 use Rattle.campaign.specs.declared.Reported.{Reported}
-use Rattle.campaign.specs.declared.reports.On.{On}
-use Rattle.campaign.specs.declared.reports.On.TheVariants.{Standing, Number}
-use Rattle.campaign.specs.declared.Answer.{Answer}
-use Rattle.campaign.specs.declared.Answer.TheVariants.{Movement, Seat, Mark, End, Refused as Answer-Refused}
-use Rattle.words.specs.declared.Outcome.{Outcome}
-use Rattle.words.specs.declared.Outcome.TheVariants.{Accepted, Refused}
+use Rattle.std.specs.declared.option.Option.{Option as Maybe}
+use Rattle.std.specs.declared.option.Option.TheVariants.{Some, None}
+use Rattle.std.specs.declared.result.Result.{Result}
+use Rattle.words.specs.declared.Line.{Line}
+use Rattle.words.specs.declared.Refusal.{Refusal}
 
-abbrev pub answer_told : Answer → Told model.Answer
-answer_told (Movement o) = accepted (movement (order_of o))
-answer_told (Seat j) = accepted (seat j.0)
-answer_told (Mark k r) = accepted (mark k r)
-answer_told (End k) = accepted (the_end k)
-answer_told (Answer-Refused f) = refusal_of f
+-- of a request: the line that is handed out, or a refusal
+abbrev pub answer_told : Result Line Refusal → Told model.Answer
+answer_told r = meaning.answer_told line_is r
 
 -- the number that a report names, if it names one
-abbrev pub on_is : On → Option ℕ
-on_is Standing = none
-on_is (Number m) = some m
+abbrev pub on_is : Maybe ℕ → Option ℕ
+on_is None = none
+on_is (Some m) = some m
 
 -- of a report: taken, or refused
-abbrev pub heard_told : Outcome → Told model.Answer
-heard_told Accepted = accepted taken
-heard_told (Refused f) = refusal_of f
+abbrev pub heard_told : Result (Unit {0}) Refusal → Told model.Answer
+heard_told r = meaning.answer_told (λ u. taken) r
 
 -- r is the answer a to the call c on s: what it tells, the state that it leaves, how many bytes its line takes
 pub record RequestIs (c : Call) (a : model.Answer) (s : State) (r : Requested) : Type 0 where

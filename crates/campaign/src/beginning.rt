@@ -35,12 +35,10 @@ impl Campaign {
         ensures { BeginIs text.now result }
     {
         let read = read_plan(text);
-        let plan = read.plan;
-        let judged = read.judged;
         Begun {
-            judged: judged,
+            judged: read.judged,
             campaign: Campaign {
-                state: first_state(plan),
+                state: first_state(read.plan),
             },
         }
     }

@@ -6,9 +6,9 @@ pub mod reports;
 pub mod requests;
 
 use campaign_state::State;
-use words::{Jack, Order, Outcome, Refusal};
+use words::{Line, Refusal};
 
-// The kinds of a report on the standing mark.
+// The kinds of a report on the standing mark: numbers, since C passes them, and any other number is refusal 14.
 pub const RAN: u8 = 0;
 
 pub const ERROR: u8 = 1;
@@ -21,24 +21,18 @@ pub struct Campaign {
     pub state: State,
 }
 
-// A text judged as a plan, and the campaign on it: its first state, or all zeros if it was refused.
+// A text judged as a plan, and the campaign on it: its first state, or all zeros if it was refused, which `demands.Refusals.refused-zeros` speaks of.
 #[derive(Clone, Copy)]
 pub struct Begun {
-    pub judged: Outcome,
+    pub judged: Result<(), Refusal>,
     pub campaign: Campaign,
 }
 
-// The answer to a request: a movement order, a jack whose cord is to be seated anew, a mark with its number and rank, the end with the plan's marks, or a refusal.
-#[derive(Clone, Copy)]
-pub enum Answer {
-    Movement(Order),
-    Seat(Jack),
-    Mark(u64, u64),
-    End(u64),
-    Refused(Refusal),
-}
+// The answer to a request: the line that is handed out, a movement with its order, a seat, a mark or the end; or a refusal.
+pub type Answer = Result<Line, Refusal>;
 
-// A request's answer, the campaign that it leaves, and how many bytes of the buffer its line takes.
+// A request's answer, the campaign that it leaves, and how many bytes of the buffer its line takes. A refusal leaves a campaign too,
+// the one that was, so it stands beside the answer.
 #[derive(Clone, Copy)]
 pub struct Requested {
     pub campaign: Campaign,
@@ -46,9 +40,9 @@ pub struct Requested {
     pub written: usize,
 }
 
-// A report's answer, and the campaign that it leaves.
+// A report's answer, and the campaign that it leaves: a refusal leaves one too, so it stands beside the answer.
 #[derive(Clone, Copy)]
 pub struct Reported {
     pub campaign: Campaign,
-    pub answer: Outcome,
+    pub answer: Result<(), Refusal>,
 }

@@ -1,5 +1,5 @@
 // Requests: the next movement order, the next jack to seat, the mark, or the end, with its line.
-ghost use Rattle.std.specs.Prelude.{◌≡◌, true, ◌≤◌, length};
+ghost use Rattle.std.specs.Prelude.{◌≡◌, true, ◌≤◌, length, Err};
 ghost use Rattle.listing.specs.Limits.{most_ports};
 ghost use Rattle.words.specs.Shape.{line_fits};
 ghost use Rattle.words.specs.declared.Place.TheVariants.{Nowhere};
@@ -8,15 +8,13 @@ ghost use Rattle.promise.specs.Campaign.{request, closed_marks, rank_of};
 ghost use Rattle.line_format.specs.Calls.{over};
 ghost use Rattle.campaign_state.specs.State.{setting_of, moment_of, answer_text};
 ghost use Rattle.campaign_state.specs.Fitness.{InPlan};
-ghost use Rattle.campaign.specs.declared.Answer.TheVariants.{Refused};
-ghost use Rattle.campaign.specs.Calls.{answer_of, told_of, after, bytes_of, line_is, roomed};
-ghost use Rattle.campaign.specs.Answers.{answer_told, RequestIs};
+ghost use Rattle.campaign.specs.Calls.{answer_of, after, bytes_of, line_is, roomed};
+ghost use Rattle.campaign.specs.Answers.{RequestIs};
 
-use crate::{Answer, Campaign, Requested};
+use crate::{Campaign, Requested};
 use campaign_state::State;
 use campaign_state::judging::{Stance, judge};
 use campaign_state::marks::{closed_marks, mark_rank};
-use line_writer::answers::Written;
 use line_writer::order_lines::write_line;
 use pattern_carry::panels::after_order;
 use words::refusals::nowhere;
@@ -35,19 +33,9 @@ fn after_movement(s: State, o: Order) -> State
     requires { (s.plan.ports ≤ most_ports) × (line_fits s.plan.ports (Movement o) ≡ true) }
     ensures { result ≡ after (request 0) (line_is (Movement o)) s }
 {
-    let plan = s.plan;
-    let panel = s.panel;
     State {
-        plan: plan,
-        panel: after_order(plan.ports, panel, o),
-        leg: s.leg,
-        step: s.step,
-        covered: s.covered,
-        opened: s.opened,
-        errors: s.errors,
-        standing: s.standing,
-        ended: s.ended,
-        seat: s.seat,
+        panel: after_order(s.plan.ports, s.panel, o),
+        ..s
     }
 }
 
@@ -56,14 +44,8 @@ fn after_seat(s: State, j: Jack) -> State
     requires { (s.plan.ports ≤ most_ports) × (line_fits s.plan.ports (Seat j) ≡ true) }
     ensures { result ≡ after (request 0) (line_is (Seat j)) s }
 {
-    let plan = s.plan;
-    let mut next = s;
-    if j.0 == plan.ports {
-        next.seat = 0;
-        return next;
-    }
-    next.seat = j.0 + 1;
-    next
+    let seat = if j.0 == s.plan.ports { 0 } else { j.0 + 1 };
+    State { seat, ..s }
 }
 
 // The state after a line was handed out: an order moves the panel, a seat leaves the next one, a mark stands, the end leaves the state as it is.
@@ -74,34 +56,21 @@ fn after_line(s: State, line: Line) -> State
     match line {
         Line::Movement(o) => after_movement(s, o),
         Line::Seat(j) => after_seat(s, j),
-        Line::Mark(_, _) => {
-            let mut next = s;
-            next.standing = true;
-            next
-        }
+        Line::Mark(_, _) => State {
+            standing: true,
+            ..s
+        },
         Line::End(_) => s,
-    }
-}
-
-// The answer that a line is.
-fn answer_of(line: Line) -> Answer
-    ensures { answer_told result ≡ told_of (line_is line) }
-{
-    match line {
-        Line::Movement(o) => Answer::Movement(o),
-        Line::Seat(j) => Answer::Seat(j),
-        Line::Mark(number, rank) => Answer::Mark(number, rank),
-        Line::End(marks) => Answer::End(marks),
     }
 }
 
 // A refused request leaves the state and the buffer as they were.
 fn refused(s: State, reason: Reason) -> Requested
-    ensures { result ≡ record { campaign = record { state = s }; answer = Refused (record { reason = reason; place = Nowhere }); written = 0 } }
+    ensures { result ≡ record { campaign = record { state = s }; answer = Err (record { reason = reason; place = Nowhere }); written = 0 } }
 {
     Requested {
         campaign: Campaign { state: s },
-        answer: Answer::Refused(nowhere(reason)),
+        answer: Err(nowhere(reason)),
         written: 0,
     }
 }
@@ -113,16 +82,16 @@ fn hand_out(s: State, line: Line, buf: &mut [u8]) -> Requested
     ensures bytes { buf.new ≡ over (answer_text (roomed (length buf.old) (line_is line))) buf.old }
 {
     match write_line(line, buf) {
-        Written::Refused(f) => Requested {
+        Err(f) => Requested {
             campaign: Campaign { state: s },
-            answer: Answer::Refused(f),
+            answer: Err(f),
             written: 0,
         },
-        Written::Bytes(n) => Requested {
+        Ok(n) => Requested {
             campaign: Campaign {
                 state: after_line(s, line),
             },
-            answer: answer_of(line),
+            answer: Ok(line),
             written: n,
         },
     }

@@ -1,6 +1,6 @@
 -- What is told of where a state is: it itself where it is fit, else 15.
 -- Assumes nothing.
-use mathlib.Core.Path.{◌≡◌, refl, sym}
+use mathlib.Core.Path.{◌≡◌, refl}
 use mathlib.Core.Bool.{true, false}
 use Rattle.words.specs.Told.{accepted, refused, nowhere}
 use Rattle.campaign_state.specs.Fitness.{fit}

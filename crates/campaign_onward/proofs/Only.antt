@@ -1,24 +1,22 @@
 -- One answer meets the contract of each call, and one state that of going on.
 -- Assumes nothing.
-use mathlib.Core.Path.{◌≡◌, sym, ap, ◌∙◌}
+use mathlib.Core.Path.{◌≡◌, sym, ◌∙◌}
 use mathlib.Core.List.{List}
 use Prim.Native.Nat.{ℕ}
-use Rattle.words.proofs.Once.{refusal-once, outcome-once}
+use Rattle.words.proofs.Once.{answer-once, outcome-once}
 use Rattle.campaign_state.specs.declared.State.{State}
 use Rattle.campaign_onward.specs.Calls.{status_of}
 use Rattle.campaign_onward.specs.Answers.{status_told, ResumeIs}
 use Rattle.campaign_onward.specs.declared.Resumed.{Resumed}
-use Rattle.campaign_onward.specs.declared.Where.{Where}
-use Rattle.campaign_onward.specs.declared.Where.TheVariants.{At, Refused}
+use Rattle.std.specs.declared.result.Result.{Result}
+use Rattle.words.specs.declared.Refusal.{Refusal}
+use Rattle.campaign_onward.specs.declared.Whereabouts.{Whereabouts}
 
 -- two answers that tell the same are the same
-status-once : (a b : Where) → status_told a ≡ status_told b → a ≡ b
-status-once (At w) (At v) e = cc
-status-once (At w) (Refused f) e = cc
-status-once (Refused f) (At w) e = cc
-status-once (Refused f) (Refused g) e = ap Refused (refusal-once f g e)
+status-once : (a b : Result Whereabouts Refusal) → status_told a ≡ status_told b → a ≡ b
+status-once r s e = answer-once (λ w. w) (λ a b q. q) r s e
 
-pub only-status : (s : State) (r q : Where) → status_told r ≡ status_of s → status_told q ≡ status_of s → r ≡ q
+pub only-status : (s : State) (r q : Result Whereabouts Refusal) → status_told r ≡ status_of s → status_told q ≡ status_of s → r ≡ q
 only-status s r q e f = status-once r q (e ∙ sym f)
 
 pub only-resume : (s : State) (p : List ℕ) (r q : Resumed) → ResumeIs s p r → ResumeIs s p q → r ≡ q

@@ -18,7 +18,7 @@ use Rattle.campaign_onward.specs.Calls.{panel_in, seats_anew, going_on, fit_told
 use Rattle.campaign_onward.specs.Answers.{GoesIs, ResumeIs}
 use Rattle.campaign_onward.specs.declared.Resumed.{Resumed}
 use Rattle.words.specs.declared.Refusal.{Refusal}
-use Rattle.words.specs.declared.Outcome.TheVariants.{Accepted}
+use Rattle.std.specs.declared.result.Result.TheVariants.{Ok}
 
 module _ (s : State) (p : List ℕ) where
   -- a panel of other ports
@@ -50,7 +50,7 @@ stays-told t s f x r e g = record { judged = g.judged ∙ e; state = g.state ∙
 
 -- and the state with the panel goes on, its seats begun anew
 pub goes_at : (s t u : State) (p : List ℕ) → t ≡ panel_in p s → u ≡ seats_anew t → length p ≡ s.plan.ports → true ≡ fit t
-    → GoesIs (fit_told s p) (going_on p s) s (record { campaign = record { state = u }; judged = Accepted })
+    → GoesIs (fit_told s p) (going_on p s) s (record { campaign = record { state = u }; judged = (Ok tt) })
 goes_at s t u p e g l f =
     let h = goes-fit s p l (f ∙ ap fit e) in
     record { judged = h; state = g ∙ ap seats_anew e ∙ ap (λ z. goes_on z (going_on p s) s) h }

@@ -1,19 +1,18 @@
 -- What an answer of each call says.
 -- Assumes nothing.
 use Rattle.std.specs.Prelude.{ℕ, ◌≡◌, List}
-use Rattle.words.specs.Told.{Told, accepted}
-use Rattle.words.specs.Meaning.{refusal_of, outcome_told}
+use Rattle.words.specs.Told.{Told}
+use Rattle.words.specs.Meaning.{answer_told, outcome_told}
 use Rattle.campaign_state.specs.declared.State.{State}
 use Rattle.campaign_onward.specs.Calls.{going_on, resume_of, goes_on}
 use Rattle.campaign_onward.specs.declared.Resumed.{Resumed}
 use Rattle.campaign_onward.specs.declared.Whereabouts.{Whereabouts}
-use Rattle.campaign_onward.specs.declared.Where.{Where}
-use Rattle.campaign_onward.specs.declared.Where.TheVariants.{At, Refused}
+use Rattle.std.specs.declared.result.Result.{Result}
+use Rattle.words.specs.declared.Refusal.{Refusal}
 
 -- where it is, or a refusal
-abbrev pub status_told : Where → Told Whereabouts
-status_told (At w) = accepted w
-status_told (Refused f) = refusal_of f
+abbrev pub status_told : Result Whereabouts Refusal → Told Whereabouts
+status_told r = answer_told (λ w. w) r
 
 -- r tells x, and its state is t if that is accepted, else s
 pub record GoesIs (x : Told (Unit {0})) (t s : State) (r : Resumed) : Type 0 where

@@ -16,7 +16,7 @@ use campaign_state::marks::{mark_number, mark_rank, plan_marks};
 use pattern_carry::panels::load;
 use pattern_check::checking::check_panel;
 use words::refusals::nowhere;
-use words::{Outcome, Reason, Refusal};
+use words::{Reason, Refusal};
 
 // Where a campaign is: the plan's marks; the number, from 0, and the rank of the mark that stands, or else of the next, or after the end of the last; whether
 // that mark stands; whether the end is shown.
@@ -29,18 +29,12 @@ pub struct Whereabouts {
     pub ended: bool,
 }
 
-// What is answered to the question where a campaign is.
-#[derive(Clone, Copy)]
-pub enum Where {
-    At(Whereabouts),
-    Refused(Refusal),
-}
-
-// Whether a campaign goes on from a panel, and the campaign that does: with that panel and its seats begun anew, or as it was.
+// Whether a campaign goes on from a panel, and the campaign that does: with that panel and its seats begun anew, or as it was. A refusal leaves
+// one too, so it stands beside the judgement.
 #[derive(Clone, Copy)]
 pub struct Resumed {
     pub campaign: Campaign,
-    pub judged: Outcome,
+    pub judged: Result<(), Refusal>,
 }
 
 // A campaign left as it was.
@@ -49,7 +43,7 @@ fn stays(s: State, f: Refusal) -> Resumed
 {
     Resumed {
         campaign: Campaign { state: s },
-        judged: Outcome::Refused(f),
+        judged: Err(f),
     }
 }
 
@@ -57,14 +51,7 @@ fn stays(s: State, f: Refusal) -> Resumed
 fn is_fit(s: State) -> bool
     ensures { result ≡ fit s }
 {
-    match judge(s) {
-        Stance::Unfit => false,
-        Stance::AtMark => true,
-        Stance::AtEnd => true,
-        Stance::Seat(_) => true,
-        Stance::Clear => true,
-        Stance::Next(_) => true,
-    }
+    !matches!(judge(s), Stance::Unfit)
 }
 
 // Where a fit state is.
@@ -82,14 +69,15 @@ fn located(s: State) -> Whereabouts
 }
 
 // Where a campaign is; refused if its state is unfit.
-pub fn status(c: Campaign) -> Where
+pub fn status(c: Campaign) -> Result<Whereabouts, Refusal>
     ensures { status_told result ≡ status_of c.state }
 {
     let s = c.state;
     if is_fit(s) {
-        return Where::At(located(s));
+        Ok(located(s))
+    } else {
+        Err(nowhere(Reason::Unfit))
     }
-    Where::Refused(nowhere(Reason::Unfit))
 }
 
 // The state with a panel put in.
@@ -97,18 +85,9 @@ fn put_in(s: State, panel: &[u8]) -> State
     requires { length panel.now ≤ most_ports }
     ensures { result ≡ panel_in panel.now s }
 {
-    let plan = s.plan;
     State {
-        plan: plan,
         panel: load(panel),
-        leg: s.leg,
-        step: s.step,
-        covered: s.covered,
-        opened: s.opened,
-        errors: s.errors,
-        standing: s.standing,
-        ended: s.ended,
-        seat: s.seat,
+        ..s
     }
 }
 
@@ -116,13 +95,8 @@ fn put_in(s: State, panel: &[u8]) -> State
 fn seats_anew(s: State) -> State
     ensures { result ≡ seats_anew s }
 {
-    let mut next = s;
-    if 0 < s.seat {
-        next.seat = 1;
-        return next;
-    }
-    next.seat = 0;
-    next
+    let seat = if 0 < s.seat { 1 } else { 0 };
+    State { seat, ..s }
 }
 
 // On a panel that is one: it goes on if it has the state's ports and the state is fit with it, and its seats begin anew.
@@ -130,20 +104,17 @@ fn on_panel(s: State, panel: &[u8]) -> Resumed
     requires { length panel.now ≤ most_ports }
     ensures { GoesIs (fit_told s panel.now) (going_on panel.now s) s result }
 {
-    let plan = s.plan;
-    if panel.len() != plan.ports as usize {
-        return stays(s, nowhere(Reason::Unfit));
-    }
     let t = put_in(s, panel);
-    if is_fit(t) {
-        return Resumed {
+    if panel.len() == s.plan.ports as usize && is_fit(t) {
+        Resumed {
             campaign: Campaign {
                 state: seats_anew(t),
             },
-            judged: Outcome::Accepted,
-        };
+            judged: Ok(()),
+        }
+    } else {
+        stays(s, nowhere(Reason::Unfit))
     }
-    stays(s, nowhere(Reason::Unfit))
 }
 
 // The campaign that goes on from the panel as it was read back.
@@ -152,7 +123,7 @@ pub fn resume(c: Campaign, panel: &[u8]) -> Resumed
 {
     let s = c.state;
     match check_panel(panel) {
-        Outcome::Refused(f) => stays(s, f),
-        Outcome::Accepted => on_panel(s, panel),
+        Err(f) => stays(s, f),
+        Ok(()) => on_panel(s, panel),
     }
 }

@@ -13,11 +13,13 @@ use campaign_way::along::rank_along;
 use campaign_way::coming::coming;
 use pattern_carry::panels::first_wrong;
 use pattern_course::unranking::put_pattern;
-use plan_rules::{leg_at, plan_ruled};
+use plan_rules::plan_ruled;
+use plan_rules::ruled::RuledPlan;
 use words::limits::{LONGEST, MOST_ERRORS};
 use words::{Jack, Leg, Order};
 
 // Where a state stands: it is unfit; a mark stands; the end is shown; a jack is to be seated; nothing is to come before the next mark; an order is to come.
+// (Six ways, and no value that all but one have.)
 #[derive(Clone, Copy)]
 pub enum Stance {
     Unfit,
@@ -28,16 +30,14 @@ pub enum Stance {
     Next(Order),
 }
 
-// Whether the places of a panel beyond n ports are 0.
+// Whether the places of a panel beyond n ports are 0. (A chain of skip and all left its goal open.)
 fn empty_from(n: u8, panel: [u8; LONGEST]) -> bool
     ensures { result ≡ empty_from n panel }
 {
-    let mut at = n as usize;
-    while at < LONGEST {
+    for at in n as usize..LONGEST {
         if panel[at] != 0 {
             return false;
         }
-        at += 1;
     }
     true
 }
@@ -46,12 +46,7 @@ fn empty_from(n: u8, panel: [u8; LONGEST]) -> bool
 fn places_fit(s: State) -> bool
     ensures { result ≡ places_fit s }
 {
-    let plan = s.plan;
-    if plan_ruled(plan) {
-        let panel = s.panel;
-        return empty_from(plan.ports, panel);
-    }
-    false
+    plan_ruled(s.plan) && empty_from(s.plan.ports, s.panel)
 }
 
 // Whether covered plus open is as many.
@@ -60,10 +55,7 @@ fn counts_right(s: State) -> bool
     ensures { result ≡ counts_right s }
 {
     let marks = closed_marks(s);
-    if marks < s.covered {
-        return false;
-    }
-    s.opened == marks - s.covered
+    s.covered <= marks && s.opened == marks - s.covered
 }
 
 // Whether the end, if it is shown, is shown at the plan's last mark, with none standing.
@@ -71,34 +63,14 @@ fn end_right(s: State, l: Leg) -> bool
     requires { InPlan s × IsLeg s l }
     ensures { result ≡ end_right s }
 {
-    if s.ended {
-        if s.standing {
-            return false;
-        }
-        let plan = s.plan;
-        if s.leg + 1 != plan.legs {
-            return false;
-        }
-        return s.step == l.run;
-    }
-    true
+    !s.ended || (!s.standing && s.leg + 1 == s.plan.legs && s.step == l.run)
 }
 
 // Whether the next jack to seat, if there is one, is of the panel, with no mark standing and the end not shown.
 fn seat_right(s: State) -> bool
     ensures { result ≡ seat_right s }
 {
-    let plan = s.plan;
-    if plan.ports < s.seat {
-        return false;
-    }
-    if 0 < s.seat {
-        if s.standing {
-            return false;
-        }
-        return !s.ended;
-    }
-    true
+    s.seat <= s.plan.ports && (s.seat == 0 || (!s.standing && !s.ended))
 }
 
 // Whether the panel has the pattern of the standing or next mark.
@@ -106,14 +78,12 @@ fn at_pattern(s: State, l: Leg) -> bool
     requires { InPlan s × IsLeg s l }
     ensures { result ≡ same (moment_of s).panel (wanted (setting_of s) (moment_of s)) }
 {
-    let plan = s.plan;
-    let n = plan.ports;
-    let panel = s.panel;
+    let n = s.plan.ports;
     let rank = rank_along(n, l.start, l.back, s.step);
     let end = n as usize;
     let mut t = [0u8; LONGEST];
     put_pattern(rank, &mut t[..end]);
-    first_wrong(n, panel, t) == 0
+    first_wrong(n, s.panel, t) == 0
 }
 
 // Where a state stands, by its panel.
@@ -121,30 +91,23 @@ fn by_panel(s: State, l: Leg) -> Stance
     requires { InPlan s × IsLeg s l }
     ensures { stance_is result ≡ panel_stand (setting_of s) (moment_of s) }
 {
-    if s.standing {
-        if at_pattern(s, l) {
-            return Stance::AtMark;
-        }
-        return Stance::Unfit;
-    }
-    if s.ended {
-        if at_pattern(s, l) {
-            return Stance::AtEnd;
-        }
-        return Stance::Unfit;
-    }
-    if 0 < s.seat {
-        if at_pattern(s, l) {
-            return Stance::Seat(Jack(s.seat));
-        }
-        return Stance::Unfit;
-    }
-    let plan = s.plan;
-    let panel = s.panel;
-    match coming(plan.ports, l, s.step, panel) {
-        ToCome::Astray => Stance::Unfit,
-        ToCome::Clear => Stance::Clear,
-        ToCome::Next(o) => Stance::Next(o),
+    let stance = if s.standing {
+        Stance::AtMark
+    } else if s.ended {
+        Stance::AtEnd
+    } else if 0 < s.seat {
+        Stance::Seat(Jack(s.seat))
+    } else {
+        return match coming(s.plan.ports, l, s.step, s.panel) {
+            ToCome::Astray => Stance::Unfit,
+            ToCome::Clear => Stance::Clear,
+            ToCome::Next(o) => Stance::Next(o),
+        };
+    };
+    if at_pattern(s, l) {
+        stance
+    } else {
+        Stance::Unfit
     }
 }
 
@@ -153,25 +116,20 @@ fn by_moment(s: State) -> Stance
     requires { places_fit s ≡ true }
     ensures { stance_is result ≡ stand_of s }
 {
-    let plan = s.plan;
-    if plan.legs <= s.leg {
+    if s.plan.legs <= s.leg {
         return Stance::Unfit;
     }
-    let l = leg_at(plan, s.leg);
-    if l.run < s.step {
-        return Stance::Unfit;
+    let l = RuledPlan { plan: s.plan }.leg_at(s.leg);
+    if s.step <= l.run
+        && s.errors <= MOST_ERRORS
+        && counts_right(s)
+        && end_right(s, l)
+        && seat_right(s)
+    {
+        by_panel(s, l)
+    } else {
+        Stance::Unfit
     }
-    if MOST_ERRORS < s.errors {
-        return Stance::Unfit;
-    }
-    if counts_right(s) {
-        if end_right(s, l) {
-            if seat_right(s) {
-                return by_panel(s, l);
-            }
-        }
-    }
-    Stance::Unfit
 }
 
 // Where a state stands.
@@ -179,7 +137,8 @@ pub fn judge(s: State) -> Stance
     ensures { stance_is result ≡ stand_of s }
 {
     if places_fit(s) {
-        return by_moment(s);
+        by_moment(s)
+    } else {
+        Stance::Unfit
     }
-    Stance::Unfit
 }

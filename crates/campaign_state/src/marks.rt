@@ -8,15 +8,14 @@ ghost use Rattle.campaign_state.specs.Fitness.{InPlan};
 
 use crate::State;
 use campaign_way::along::rank_along;
-use plan_rules::{leg_at, marks_before};
+use plan_rules::ruled::RuledPlan;
 
 // The plan's marks.
 pub fn plan_marks(s: State) -> u64
     requires { InPlan s }
     ensures { result ≡ marks (legs_of s.plan) }
 {
-    let plan = s.plan;
-    marks_before(plan, plan.legs)
+    RuledPlan { plan: s.plan }.marks_before(s.plan.legs)
 }
 
 // The number of the standing or next mark; after the end of the last.
@@ -24,8 +23,7 @@ pub fn mark_number(s: State) -> u64
     requires { InPlan s }
     ensures { result ≡ number_of (setting_of s) (moment_of s) }
 {
-    let plan = s.plan;
-    marks_before(plan, s.leg) + s.step
+    RuledPlan { plan: s.plan }.marks_before(s.leg) + s.step
 }
 
 // Its rank.
@@ -33,9 +31,8 @@ pub fn mark_rank(s: State) -> u64
     requires { InPlan s }
     ensures { result ≡ rank_of (setting_of s) (moment_of s) }
 {
-    let plan = s.plan;
-    let l = leg_at(plan, s.leg);
-    rank_along(plan.ports, l.start, l.back, s.step)
+    let l = RuledPlan { plan: s.plan }.leg_at(s.leg);
+    rank_along(s.plan.ports, l.start, l.back, s.step)
 }
 
 // How many marks are closed: those before the standing or next one; after the end all.
@@ -44,7 +41,8 @@ pub fn closed_marks(s: State) -> u64
     ensures { result ≡ closed_marks (setting_of s) (moment_of s) }
 {
     if s.ended {
-        return plan_marks(s);
+        plan_marks(s)
+    } else {
+        mark_number(s)
     }
-    mark_number(s)
 }

@@ -8,14 +8,15 @@ ghost use Rattle.promise.specs.Derangements.{derangements};
 use pattern_steps::counts::count_of;
 use plan_arcs::circle::{backward, onward};
 
-// The rank k steps on from a rank, or k steps back, round the circuit.
+// The rank k steps on from a rank, or k steps back, round the circuit. (Which way is data of the leg.)
 pub fn rank_along(n: u8, start: u64, back: bool, k: u64) -> u64
     requires { (2 ≤ n) × (n ≤ most_ports) × (start < count n) × (k < count n) }
     ensures { result ≡ stepped (derangements n) back start k }
 {
     let total = count_of(n);
     if back {
-        return backward(total, start, k);
+        backward(total, start, k)
+    } else {
+        onward(total, start, k)
     }
-    onward(total, start, k)
 }

@@ -20,7 +20,7 @@ use pattern_check::checking::check_panel;
 use pattern_course::unranking::{put_pattern, put_with_course};
 use pattern_moves::neighbours::move_along;
 use words::limits::LONGEST;
-use words::{Jack, Leg, Move, Order, Outcome, Port};
+use words::{Jack, Leg, Move, Order, Port};
 
 // The next order of the carriage from p to t: at the first wrong jack, swap with the jack that holds the wanted port.
 fn carriage_next(n: u8, p: [u8; LONGEST], t: [u8; LONGEST]) -> ToCome
@@ -42,14 +42,12 @@ fn before_first(n: u8, l: Leg, q: [u8; LONGEST]) -> ToCome
     ensures { coming_is result ≡ next_of (to_come (derangements n) (leg_is l) 0 (take n q)) }
 {
     let end = n as usize;
-    match check_panel(&q[..end]) {
-        Outcome::Refused(_) => ToCome::Astray,
-        Outcome::Accepted => {
-            let mut t = [0u8; LONGEST];
-            put_pattern(l.start, &mut t[..end]);
-            carriage_next(n, q, t)
-        }
+    if check_panel(&q[..end]).is_err() {
+        return ToCome::Astray;
     }
+    let mut t = [0u8; LONGEST];
+    put_pattern(l.start, &mut t[..end]);
+    carriage_next(n, q, t)
 }
 
 // Nothing is to come from p where the panel is p.
@@ -70,15 +68,8 @@ fn or_next(found: ToCome, n: u8, p: [u8; LONGEST], o: Order, q: [u8; LONGEST]) -
     ensures { coming_is result ≡ or_next (coming_is found) (cond (same (take n p) (take n q)) (some (some (order_of o))) none) }
 {
     match found {
-        ToCome::Clear => ToCome::Clear,
-        ToCome::Next(v) => ToCome::Next(v),
-        ToCome::Astray => {
-            if first_wrong(n, p, q) == 0 {
-                ToCome::Next(o)
-            } else {
-                ToCome::Astray
-            }
-        }
+        ToCome::Astray if first_wrong(n, p, q) == 0 => ToCome::Next(o),
+        found => found,
     }
 }
 
@@ -114,10 +105,9 @@ pub fn coming(n: u8, l: Leg, k: u64, q: [u8; LONGEST]) -> ToCome
     if k == 0 {
         return before_first(n, l, q);
     }
-    let back = l.back;
-    let r = rank_along(n, l.start, back, k - 1);
+    let r = rank_along(n, l.start, l.back, k - 1);
     let end = n as usize;
     let mut t = [0u8; LONGEST];
     let levels = put_with_course(r, &mut t[..end]);
-    on_the_way(n, t, move_along(&levels, n, back), q)
+    on_the_way(n, t, move_along(&levels, n, l.back), q)
 }

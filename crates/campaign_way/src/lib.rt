@@ -6,7 +6,8 @@ pub mod coming;
 
 use words::Order;
 
-// What is to come before a mark: the panel may not stand there; nothing; or an order next.
+// What is to come before a mark: the panel may not stand there; nothing; or an order next. (Three ways, so no Option is
+// plainer.)
 #[derive(Clone, Copy)]
 pub enum ToCome {
     Astray,

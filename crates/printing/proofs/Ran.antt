@@ -1,7 +1,7 @@
 -- The marks that a rehearsal takes as run, as the code counts them: within the rules those of the legs before and the step, after the end those of all legs;
 -- outside the rules none.
 -- Assumes nothing.
-use mathlib.Core.Path.{◌≡◌, refl, sym, ap, ◌∙◌}
+use mathlib.Core.Path.{◌≡◌, refl, sym, ◌∙◌}
 use mathlib.Core.Bool.{true, false}
 use Prim.Native.Nat.{◌+◌, ◌≤◌, ◌<◌}
 use native.Mathlib.Omega.{arith}

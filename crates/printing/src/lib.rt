@@ -6,15 +6,16 @@ pub mod rehearsals;
 
 ghost use Rattle.std.specs.Prelude.{◌≡◌, ◌++◌, ◌-◌, ◌≤◌, length, take, drop};
 ghost use Rattle.words.specs.Meaning.{refusal_of};
-ghost use Rattle.campaign.specs.Calls.{bytes_of};
+ghost use Rattle.campaign.specs.Calls.{bytes_of, line_is};
+ghost use Rattle.printing.specs.Printing.{as_run, sequel};
 ghost use Rattle.printing.specs.Rehearsals.{state_of};
-ghost use Rattle.printing.specs.Answers.{filled_told, stop_told, GivenIs, LinedIs, PrintedIs, RehearsedIs, fill_bytes};
+ghost use Rattle.printing.specs.Answers.{sequel_told, filled_told, stop_told, GivenIs, LinedIs, PrintedIs, RehearsedIs, fill_bytes};
 
 use crate::rehearsals::{rehearsal_of, state_of};
-use campaign::{Answer, Campaign, RAN};
+use campaign::{Campaign, RAN};
 use plan_rules::Plan;
 use words::limits::LONGEST;
-use words::{Outcome, Refusal};
+use words::{Line, Refusal};
 
 // A rehearsal of a plan, every mark taken as run: the plan; the panel, 0 beyond the ports; the leg and step of the next mark, counted from 0; whether the end
 // is shown. It has no counts: those are a campaign's.
@@ -27,14 +28,14 @@ pub struct Rehearsal {
     pub ended: bool,
 }
 
-// A text judged as a plan, and the rehearsal of it: at its first moment, or all zeros if it was refused.
+// A text judged as a plan, and the rehearsal of it: at its first moment, or all zeros if it was refused, which `demands.Refusals.refused-zeros` speaks of.
 #[derive(Clone, Copy)]
 pub struct Rehearsed {
-    pub judged: Outcome,
+    pub judged: Result<(), Refusal>,
     pub rehearsal: Rehearsal,
 }
 
-// What was printed: so many bytes with more to come, so many with the end's line last, or not even one line.
+// What was printed: so many bytes with more to come, so many with the end's line last, or not even one line. (Three ways, so no Result is plainer.)
 #[derive(Clone, Copy)]
 pub enum Filled {
     Lines(usize),
@@ -42,7 +43,7 @@ pub enum Filled {
     Refused(Refusal),
 }
 
-// What was printed, and the rehearsal that it leaves.
+// What was printed, and the rehearsal that it leaves: a refusal leaves one too, so it stands beside what was printed.
 #[derive(Clone, Copy)]
 pub struct Printed {
     pub rehearsal: Rehearsal,
@@ -56,7 +57,7 @@ struct Lined {
     filled: Filled,
 }
 
-// What follows a line: more lines, none after the end's, or a refusal in its place.
+// What follows a line: more lines, none after the end's, or a refusal in its place. (Three ways, so no Result is plainer.)
 #[derive(Clone, Copy)]
 enum Sequel {
     More,
@@ -72,6 +73,34 @@ struct Given {
     sequel: Sequel,
 }
 
+// What follows a line that was handed out: a mark is reported as run, and nothing follows the end.
+fn go_on(campaign: Campaign, at: usize, line: Line) -> Given
+    ensures told { sequel_told result.sequel ≡ sequel (line_is line) }
+    ensures state { result.campaign.state ≡ as_run (line_is line) campaign.state }
+    ensures place { result.at ≡ at }
+{
+    match line {
+        Line::Movement(_) | Line::Seat(_) => Given {
+            campaign,
+            at,
+            sequel: Sequel::More,
+        },
+        Line::Mark(_, _) => {
+            let reported = campaign.report(RAN);
+            Given {
+                campaign: reported.campaign,
+                at,
+                sequel: Sequel::More,
+            }
+        }
+        Line::End(_) => Given {
+            campaign,
+            at,
+            sequel: Sequel::Ended,
+        },
+    }
+}
+
 // One request, its line at a place of the buffer; a mark is reported as run.
 fn request_line(c: Campaign, buf: &mut [u8], at: usize) -> Given
     requires { at ≤ length buf.old }
@@ -79,36 +108,11 @@ fn request_line(c: Campaign, buf: &mut [u8], at: usize) -> Given
     ensures bytes { buf.new ≡ take at buf.old ++ bytes_of c.state (drop at buf.old) }
 {
     let asked = c.request(&mut buf[at..]);
-    let answer = asked.answer;
-    let next = asked.campaign;
     let after = at + asked.written;
-    match answer {
-        Answer::Movement(_) => Given {
-            campaign: next,
-            at: after,
-            sequel: Sequel::More,
-        },
-        Answer::Seat(_) => Given {
-            campaign: next,
-            at: after,
-            sequel: Sequel::More,
-        },
-        Answer::Mark(_, _) => {
-            let reported = next.report(RAN);
-            let ran = reported.campaign;
-            Given {
-                campaign: ran,
-                at: after,
-                sequel: Sequel::More,
-            }
-        }
-        Answer::End(_) => Given {
-            campaign: next,
-            at: after,
-            sequel: Sequel::Ended,
-        },
-        Answer::Refused(f) => Given {
-            campaign: next,
+    match asked.answer {
+        Ok(line) => go_on(asked.campaign, after, line),
+        Err(f) => Given {
+            campaign: asked.campaign,
             at: after,
             sequel: Sequel::Refused(f),
         },
@@ -120,9 +124,10 @@ fn stopped(n: usize, f: Refusal) -> Filled
     ensures { filled_told result ≡ stop_told n (refusal_of f) }
 {
     if n == 0 {
-        return Filled::Refused(f);
+        Filled::Refused(f)
+    } else {
+        Filled::Lines(n)
     }
-    Filled::Lines(n)
 }
 
 // As many whole lines as fit the buffer, from the front; every mark is reported as run.
@@ -132,26 +137,24 @@ fn fill_lines(c: Campaign, buf: &mut [u8]) -> Lined
 {
     let mut campaign = c;
     let mut at: usize = 0;
+    // No `for`: the answers of the campaign say when it ends.
     loop {
         let given = request_line(campaign, buf, at);
-        let sequel = given.sequel;
-        let next = given.campaign;
-        let after = given.at;
-        match sequel {
+        match given.sequel {
             Sequel::More => {
-                campaign = next;
-                at = after;
+                campaign = given.campaign;
+                at = given.at;
             }
             Sequel::Ended => {
                 return Lined {
-                    campaign: next,
-                    filled: Filled::Ended(after),
+                    campaign: given.campaign,
+                    filled: Filled::Ended(given.at),
                 };
             }
             Sequel::Refused(f) => {
                 return Lined {
-                    campaign: next,
-                    filled: stopped(after, f),
+                    campaign: given.campaign,
+                    filled: stopped(given.at, f),
                 };
             }
         }
@@ -163,11 +166,9 @@ pub fn rehearse(text: &[u8]) -> Rehearsed
     ensures { RehearsedIs text.now result }
 {
     let begun = Campaign::begin(text);
-    let campaign = begun.campaign;
-    let judged = begun.judged;
     Rehearsed {
-        judged: judged,
-        rehearsal: rehearsal_of(campaign.state),
+        judged: begun.judged,
+        rehearsal: rehearsal_of(begun.campaign.state),
     }
 }
 
@@ -177,10 +178,8 @@ pub fn fill(r: Rehearsal, buf: &mut [u8]) -> Printed
     ensures bytes { buf.new ≡ fill_bytes (state_of r) buf.old }
 {
     let lined = fill_lines(Campaign { state: state_of(r) }, buf);
-    let campaign = lined.campaign;
-    let filled = lined.filled;
     Printed {
-        rehearsal: rehearsal_of(campaign.state),
-        filled: filled,
+        rehearsal: rehearsal_of(lined.campaign.state),
+        filled: lined.filled,
     }
 }

@@ -4,17 +4,16 @@ ghost use Rattle.printing.specs.Rehearsals.{rehearsal_of, ran_of, state_of};
 
 use crate::Rehearsal;
 use campaign_state::State;
-use plan_rules::{leg_at, marks_before, plan_ruled};
+use plan_rules::ruled::RuledPlan;
 
-// What a rehearsal keeps of a state.
+// What a rehearsal keeps of a state. (Two types, so no struct update.)
 pub fn rehearsal_of(s: State) -> Rehearsal
     ensures { result ≡ rehearsal_of s }
 {
-    let plan = s.plan;
-    let panel = s.panel;
+    let State { plan, panel, .. } = s;
     Rehearsal {
-        plan: plan,
-        panel: panel,
+        plan,
+        panel,
         leg: s.leg,
         step: s.step,
         ended: s.ended,
@@ -25,30 +24,26 @@ pub fn rehearsal_of(s: State) -> Rehearsal
 fn ran_of(r: Rehearsal) -> u64
     ensures { result ≡ ran_of r }
 {
-    let plan = r.plan;
-    if plan_ruled(plan) {
-        if r.leg < plan.legs {
-            let l = leg_at(plan, r.leg);
-            if r.step <= l.run {
-                if r.ended {
-                    return marks_before(plan, plan.legs);
-                }
-                return marks_before(plan, r.leg) + r.step;
+    match RuledPlan::of(r.plan) {
+        Some(plan) if r.leg < r.plan.legs && r.step <= plan.leg_at(r.leg).run => {
+            if r.ended {
+                plan.marks_before(r.plan.legs)
+            } else {
+                plan.marks_before(r.leg) + r.step
             }
         }
+        _ => 0,
     }
-    0
 }
 
-// The state of a campaign that a rehearsal stands for.
+// The state of a campaign that a rehearsal stands for. (Two types, so no struct update.)
 pub fn state_of(r: Rehearsal) -> State
     ensures { result ≡ state_of r }
 {
-    let plan = r.plan;
-    let panel = r.panel;
+    let Rehearsal { plan, panel, .. } = r;
     State {
-        plan: plan,
-        panel: panel,
+        plan,
+        panel,
         leg: r.leg,
         step: r.step,
         covered: ran_of(r),

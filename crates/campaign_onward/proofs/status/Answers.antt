@@ -14,6 +14,6 @@ pub returns-then-is_fit : goal.returns-then-is_fit
 returns-then-is_fit c =
     ap accepted c.located.ensures ∙ status-fit _ (sym c.is_fit.ensures ∙ c.if-is_fit.true)
 
-pub returns : goal.returns
-returns c =
+pub returns-else-is_fit : goal.returns-else-is_fit
+returns-else-is_fit c =
     ap refusal_of c.nowhere.ensures ∙ status-unfit _ (sym c.is_fit.ensures ∙ c.if-is_fit.false)

@@ -1,6 +1,5 @@
 -- `printing::fill_lines`: line by line the text so far stands at the front of the buffer, and each line leaves less room.
 use mathlib.Core.Path.{refl, sym, ap}
-use Prim.Native.Nat.{◌-◌}
 use Rattle.printing.specs.Answers.{sequel_told}
 use Rattle.printing.proofs.Filling.{line-less, line_on, line-last}
 use Rattle.printing.specs.declared.Filled.TheVariants.{Ended}

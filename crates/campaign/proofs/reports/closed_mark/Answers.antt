@@ -16,9 +16,11 @@ sized c = record { starts = search rules; runs = search rules; panel = search ru
 run : (c : After-leg_at-l) → c.leg_at-l.result.run ≡ (here (setting_of c.args.s) (moment_of c.args.s)).run
 run c = ap (λ l. l.run) c.leg_at-l.ensures
 
+pub invariant_of-leg_at : goal.invariant_of-leg_at
+invariant_of-leg_at c = record { ruled = plan-ruled c.args.s (sized (goal.at.invariant_of-leg_at c).Start) c.requires.places }
+
 pub leg_at-l-requires : goal.leg_at-l-requires
-leg_at-l-requires c =
-    (plan-ruled c.args.s (sized (goal.at.leg_at-l-requires c).Start) c.requires.places, leg-below c.args.s (sized (goal.at.leg_at-l-requires c).Start) c.requires)
+leg_at-l-requires c = leg-below c.args.s (sized (goal.at.leg_at-l-requires c).Start) c.requires
 
 pub returns-then-s-l : goal.returns-then-s-l
 returns-then-s-l c =
@@ -28,10 +30,10 @@ pub overflow_add-s : goal.overflow_add-s
 overflow_add-s c =
     omega (arith, leg-below c.args.s (sized (goal.at.overflow_add-s c).Start) c.requires, few-legs c.args.s (sized (goal.at.overflow_add-s c).Start) c.requires)
 
-pub returns-then-s-plan : goal.returns-then-s-plan
-returns-then-s-plan c =
-    closed-leg c.args.s (rw (← run (goal.at.returns-then-s-plan c).After-leg_at-l) c.if-s-l.false) (rw (many-legs c.args.s (sized (goal.at.returns-then-s-plan c).Start) c.requires.places) c.if-s-plan.true)
+pub returns-then-s : goal.returns-then-s
+returns-then-s c =
+    closed-leg c.args.s (rw (← run (goal.at.returns-then-s c).After-leg_at-l) c.if-s-l.false) (rw (many-legs c.args.s (sized (goal.at.returns-then-s c).Start) c.requires.places) c.if-s.true)
 
-pub returns : goal.returns
-returns c =
-    closed-last c.args.s (rw (← run (goal.at.returns c).After-leg_at-l) c.if-s-l.false) (rw (many-legs c.args.s (sized (goal.at.returns c).Start) c.requires.places) c.if-s-plan.false)
+pub returns-else-s : goal.returns-else-s
+returns-else-s c =
+    closed-last c.args.s (rw (← run (goal.at.returns-else-s c).After-leg_at-l) c.if-s-l.false) (rw (many-legs c.args.s (sized (goal.at.returns-else-s c).Start) c.requires.places) c.if-s.false)

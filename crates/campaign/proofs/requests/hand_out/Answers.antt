@@ -8,29 +8,29 @@ use Rattle.campaign_state.specs.State.{answer_text, width}
 use Rattle.campaign.specs.Calls.{told_of, after, line_is}
 use Rattle.campaign.proofs.Moments.{refusal-leaves}
 use Rattle.campaign.proofs.Written.{was-written, not_written}
-use Rattle.campaign.proofs.Tells.{any-room, retold}
+use Rattle.campaign.proofs.Tells.{line-told, any-room, retold}
 use Rattle.campaign.proofs.requests.hand_out.Goals as goal
 
-pub returns-in-Refused-clause-told : goal.returns-in-Refused-clause-told
-returns-in-Refused-clause-told c = let n = not_written c.args.s.plan.ports c.requires.0 c.args.line c.requires.1 c.args.buf.now _ _
-    (ap written_told (sym c.in-Refused.is) ∙ c.write_line.ensures.answer) in record {
+pub returns-in-Err-clause-told : goal.returns-in-Err-clause-told
+returns-in-Err-clause-told c = let n = not_written c.args.s.plan.ports c.requires.0 c.args.line c.requires.1 c.args.buf.now _ _
+    (ap written_told (sym c.in-Err.is) ∙ c.write_line.ensures.answer) in record {
       answer = retold _ _ _ _ n.told ∙ ap told_of n.answer;
       state = refusal-leaves (request (length c.args.buf.now)) 2 c.args.s ∙ ap (λ x. after (request (length c.args.buf.now)) x c.args.s) n.answer;
       written = ap width n.answer;
     }
 
-pub returns-in-Refused-clause-bytes : goal.returns-in-Refused-clause-bytes
-returns-in-Refused-clause-bytes c = let n = not_written c.args.s.plan.ports c.requires.0 c.args.line c.requires.1 c.args.buf.now _ _
-    (ap written_told (sym c.in-Refused.is) ∙ c.write_line.ensures.answer) in c.write_line.ensures.bytes ∙ n.left ∙ ap (λ x. over (answer_text x) c.args.buf.now) n.answer
+pub returns-in-Err-clause-bytes : goal.returns-in-Err-clause-bytes
+returns-in-Err-clause-bytes c = let n = not_written c.args.s.plan.ports c.requires.0 c.args.line c.requires.1 c.args.buf.now _ _
+    (ap written_told (sym c.in-Err.is) ∙ c.write_line.ensures.answer) in c.write_line.ensures.bytes ∙ n.left ∙ ap (λ x. over (answer_text x) c.args.buf.now) n.answer
 
-pub returns-in-Bytes-clause-told : goal.returns-in-Bytes-clause-told
-returns-in-Bytes-clause-told c = let d = was-written c.args.s.plan.ports c.requires.0 c.args.line c.requires.1 c.args.buf.now _
-    (ap written_told (sym c.in-Bytes.is) ∙ c.write_line.ensures.answer) in record {
-      answer = c.answer_of.ensures ∙ ap told_of d.answer;
+pub returns-in-Ok-clause-told : goal.returns-in-Ok-clause-told
+returns-in-Ok-clause-told c = let d = was-written c.args.s.plan.ports c.requires.0 c.args.line c.requires.1 c.args.buf.now _
+    (ap written_told (sym c.in-Ok.is) ∙ c.write_line.ensures.answer) in record {
+      answer = line-told c.args.line ∙ ap told_of d.answer;
       state = c.after_line.ensures ∙ any-room 0 (length c.args.buf.now) (line_is c.args.line) c.args.s ∙ ap (λ x. after (request (length c.args.buf.now)) x c.args.s) d.answer;
       written = d.bytes ∙ ap width d.answer;
     }
 
-pub returns-in-Bytes-clause-bytes : goal.returns-in-Bytes-clause-bytes
-returns-in-Bytes-clause-bytes c = let d = was-written c.args.s.plan.ports c.requires.0 c.args.line c.requires.1 c.args.buf.now _
-    (ap written_told (sym c.in-Bytes.is) ∙ c.write_line.ensures.answer) in c.write_line.ensures.bytes ∙ d.left
+pub returns-in-Ok-clause-bytes : goal.returns-in-Ok-clause-bytes
+returns-in-Ok-clause-bytes c = let d = was-written c.args.s.plan.ports c.requires.0 c.args.line c.requires.1 c.args.buf.now _
+    (ap written_told (sym c.in-Ok.is) ∙ c.write_line.ensures.answer) in c.write_line.ensures.bytes ∙ d.left

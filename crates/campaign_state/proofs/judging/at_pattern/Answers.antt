@@ -25,7 +25,7 @@ start c = start-listed c.args.s (sized c) c.requires.0 c.args.l c.requires.1
 -- the rank at the step is listed
 listed : (c : After-rank_along-rank) → c.rank_along-rank.result < count c.args.s.plan.ports
 listed c =
-    rw c.rank_along-rank.ensures (walk-listed c.args.s.plan.ports (ports c.before.before.before).0 c.args.l.start c.args.l.back c.args.s.step (start c.before.before.before))
+    rw c.rank_along-rank.ensures (walk-listed c.args.s.plan.ports (ports c.before).0 c.args.l.start c.args.l.back c.args.s.step (start c.before))
 
 pub rank_along-rank-requires : goal.rank_along-rank-requires
 rank_along-rank-requires c =

@@ -5,12 +5,13 @@ use lib.ListN.{take}
 use Rattle.promise.specs.Campaign.{todo, to_come}
 use Rattle.promise.specs.Derangements.{derangements}
 use Rattle.campaign_way.specs.Coming.{next_of, coming_is}
+use Rattle.campaign_state.specs.Standing.{stance_is}
 use Rattle.campaign_state.specs.State.{setting_of, moment_of}
 use Rattle.campaign_state.proofs.Places.{Sized, few-ports, step-below, start-listed}
 use Rattle.campaign_state.proofs.Stands.{mark-right, mark-wrong, end-panel-right, end-panel-wrong, seat-panel-right}
 use Rattle.campaign_state.proofs.Stands.{seat-panel-wrong, way-panel}
 use Rattle.campaign_state.proofs.judging.by_panel.Goals as goal
-use Rattle.campaign_state.proofs.judging.by_panel.Goals.{After-coming, Start}
+use Rattle.campaign_state.proofs.judging.by_panel.Goals.{After-coming, Start, then-s, else-s+then-s-2, else-s+else-s-2+then-s-gt0}
 
 sized : (c : Start) → Sized c.args.s
 sized c = record { starts = search rules; runs = search rules; panel = search rules }
@@ -22,24 +23,22 @@ found c =
     c.coming.ensures ∙ ap (λ l. next_of (to_come (derangements c.args.s.plan.ports) l c.args.s.step (take c.args.s.plan.ports c.args.s.panel))) c.requires.1
 
 pub returns-then-at_pattern : goal.returns-then-at_pattern
-returns-then-at_pattern c = mark-right _ _ c.if-s.true (sym c.at_pattern.ensures ∙ c.if-at_pattern.true)
+returns-then-at_pattern c =
+    let same = sym c.at_pattern.ensures ∙ c.if-at_pattern.true in
+    elim c.if-s.branch [
+      | then-s w ↦ ap stance_is w.stance-is ∙ mark-right _ _ w.if-s.true same
+      | else-s+then-s-2 w ↦ ap stance_is w.stance-is ∙ end-panel-right _ _ w.if-s.false w.if-s-2.true same
+      | else-s+else-s-2+then-s-gt0 w ↦ ap stance_is w.stance-is ∙ seat-panel-right _ _ w.if-s.false w.if-s-2.false w.if-s-gt0.true same
+    ]
 
-pub returns-then-s : goal.returns-then-s
-returns-then-s c = mark-wrong _ _ c.if-s.true (sym c.at_pattern.ensures ∙ c.if-at_pattern.false)
-
-pub returns-then-at_pattern-2 : goal.returns-then-at_pattern-2
-returns-then-at_pattern-2 c = end-panel-right _ _ c.if-s.false c.if-s-2.true (sym c.at_pattern-then-s-2.ensures ∙ c.if-at_pattern-2.true)
-
-pub returns-then-s-2 : goal.returns-then-s-2
-returns-then-s-2 c = end-panel-wrong _ _ c.if-s.false c.if-s-2.true (sym c.at_pattern-then-s-2.ensures ∙ c.if-at_pattern-2.false)
-
-pub returns-then-at_pattern-3 : goal.returns-then-at_pattern-3
-returns-then-at_pattern-3 c =
-    seat-panel-right _ _ c.if-s.false c.if-s-2.false c.if-s-gt0.true (sym c.at_pattern-then-s-gt0.ensures ∙ c.if-at_pattern-3.true)
-
-pub returns-then-s-gt0 : goal.returns-then-s-gt0
-returns-then-s-gt0 c =
-    seat-panel-wrong _ _ c.if-s.false c.if-s-2.false c.if-s-gt0.true (sym c.at_pattern-then-s-gt0.ensures ∙ c.if-at_pattern-3.false)
+pub returns-else-at_pattern : goal.returns-else-at_pattern
+returns-else-at_pattern c =
+    let other = sym c.at_pattern.ensures ∙ c.if-at_pattern.false in
+    elim c.if-s.branch [
+      | then-s w ↦ mark-wrong _ _ w.if-s.true other
+      | else-s+then-s-2 w ↦ end-panel-wrong _ _ w.if-s.false w.if-s-2.true other
+      | else-s+else-s-2+then-s-gt0 w ↦ seat-panel-wrong _ _ w.if-s.false w.if-s-2.false w.if-s-gt0.true other
+    ]
 
 pub coming-requires : goal.coming-requires
 coming-requires c =

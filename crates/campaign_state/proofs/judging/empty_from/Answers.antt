@@ -1,6 +1,5 @@
 -- `campaign_state::judging::empty_from` looks at the places beyond the ports: those before `at` are 0, so those from there on decide.
 use mathlib.Core.Path.{sym, ◌∙◌}
-use Prim.Native.Nat.{◌-◌}
 use borrow.Author.Rules.{rules}
 use Rattle.campaign_state.proofs.Places.{empty-from, empty-on, empty-not, empty-end}
 use Rattle.campaign_state.proofs.judging.empty_from.Goals as goal

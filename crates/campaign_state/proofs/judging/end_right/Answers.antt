@@ -3,7 +3,7 @@ use mathlib.Core.Path.{ap}
 use native.Mathlib.Numerals.{add-one}
 use native.Mathlib.Omega.{arith}
 use borrow.Author.Rules.{rules}
-use borrow.Author.Tests.{eq-eqb, ne_eqb}
+use Rattle.std.proofs.lemmas.Bool.Decides.{nat_tests}
 use Rattle.promise.specs.Tests.{implies}
 use Rattle.campaign_state.proofs.Places.{Sized, many-legs, leg-below, few-legs}
 use Rattle.campaign_state.proofs.judging.end_right.Goals as goal
@@ -12,26 +12,22 @@ use Rattle.campaign_state.proofs.judging.end_right.Goals.{Start}
 sized : (c : Start) → Sized c.args.s
 sized c = record { starts = search rules; runs = search rules; panel = search rules }
 
-pub returns-then-s-2 : goal.returns-then-s-2
-unfolding implies
-returns-then-s-2 c = rw (c.if-s.true, c.if-s-2.true)
-
 pub overflow_add-s : goal.overflow_add-s
 overflow_add-s c =
     omega (arith, leg-below c.args.s (sized (goal.at.overflow_add-s c).Start) c.requires.0, few-legs c.args.s (sized (goal.at.overflow_add-s c).Start) c.requires.0)
 
-pub returns-then-s-plan : goal.returns-then-s-plan
+pub returns-then-not-s : goal.returns-then-not-s
 unfolding implies
-returns-then-s-plan c =
-    let many = many-legs c.args.s (sized (goal.at.returns-then-s-plan c).Start) c.requires.0.places in
-    rw (c.if-s.true, c.if-s-2.false, many, ← add-one c.args.s.leg, ne_eqb _ _ c.if-s-plan.true)
+returns-then-not-s c = grind (arith, nat_tests)
 
 pub returns-then-s : goal.returns-then-s
 unfolding implies
 returns-then-s c =
     let many = many-legs c.args.s (sized (goal.at.returns-then-s c).Start) c.requires.0.places in
-    rw (c.if-s.true, c.if-s-2.false, many, ← add-one c.args.s.leg, eq-eqb _ _ c.if-s-plan.false, ← ap (λ l. l.run) c.requires.1)
+    rw (many, ← add-one c.args.s.leg, ← ap (λ l. l.run) c.requires.1) (grind (arith, nat_tests))
 
-pub returns : goal.returns
+pub returns-else-s : goal.returns-else-s
 unfolding implies
-returns c = rw c.if-s.false
+returns-else-s c =
+    let many = many-legs c.args.s (sized (goal.at.returns-else-s c).Start) c.requires.0.places in
+    rw (many, ← add-one c.args.s.leg, ← ap (λ l. l.run) c.requires.1) (grind (arith, nat_tests))

@@ -3,5 +3,5 @@ use mathlib.Core.Path.{sym, ◌∙◌}
 use Rattle.campaign_state.proofs.Stands.{unfit-places}
 use Rattle.campaign_state.proofs.judging.judge.Goals as goal
 
-pub returns : goal.returns
-returns c = unfit-places _ (sym c.places_fit.ensures ∙ c.if-places_fit.false)
+pub returns-else-places_fit : goal.returns-else-places_fit
+returns-else-places_fit c = unfit-places _ (sym c.places_fit.ensures ∙ c.if-places_fit.false)

@@ -8,6 +8,8 @@ unfolding places_fit
 returns-then-plan_ruled c =
     rw (sym c.plan_ruled.ensures ∙ c.if-plan_ruled.true) c.empty_from.ensures
 
-pub returns : goal.returns
+pub returns-else-plan_ruled : goal.returns-else-plan_ruled
 unfolding places_fit
-returns c = rw (sym c.plan_ruled.ensures ∙ c.if-plan_ruled.false)
+returns-else-plan_ruled c =
+    let e = sym c.plan_ruled.ensures ∙ c.if-plan_ruled.false in
+    c.if-plan_ruled.false ∙ rw e

@@ -1,16 +1,17 @@
 -- `campaign_state::judging::seat_right` asks what the definition asks, in its order.
-use borrow.Author.Tests.{le-leb, lt-ltb, le-ltb}
+use native.Mathlib.Omega.{arith}
+use Rattle.std.proofs.lemmas.Bool.Decides.{nat_tests}
 use Rattle.promise.specs.Tests.{implies}
 use Rattle.campaign_state.proofs.judging.seat_right.Goals as goal
 
-pub returns-then-s : goal.returns-then-s
+pub returns-then-s-eq0 : goal.returns-then-s-eq0
 unfolding implies
-returns-then-s c = rw (le-leb _ _ c.if-plan-s.false, lt-ltb _ _ c.if-s-gt0.true, c.if-s.true)
+returns-then-s-eq0 c = grind (arith, nat_tests)
 
-pub returns-then-s-gt0 : goal.returns-then-s-gt0
+pub returns-then-not-s : goal.returns-then-not-s
 unfolding implies
-returns-then-s-gt0 c = rw (le-leb _ _ c.if-plan-s.false, lt-ltb _ _ c.if-s-gt0.true, c.if-s.false)
+returns-then-not-s c = grind (arith, nat_tests)
 
-pub returns : goal.returns
+pub returns-else-not-s : goal.returns-else-not-s
 unfolding implies
-returns c = rw (le-leb _ _ c.if-plan-s.false, le-ltb _ _ c.if-s-gt0.false)
+returns-else-not-s c = grind (arith, nat_tests)

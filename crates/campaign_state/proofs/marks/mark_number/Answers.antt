@@ -10,9 +10,11 @@ use Rattle.campaign_state.proofs.marks.mark_number.Goals.{Start}
 sized : (c : Start) → Sized c.args.s
 sized c = record { starts = search rules; runs = search rules; panel = search rules }
 
+pub invariant_of-marks_before : goal.invariant_of-marks_before
+invariant_of-marks_before c = record { ruled = plan-ruled c.args.s (sized (goal.at.invariant_of-marks_before c).Start) c.requires.places }
+
 pub marks_before-requires : goal.marks_before-requires
-marks_before-requires c =
-    (plan-ruled c.args.s (sized (goal.at.marks_before-requires c).Start) c.requires.places, omega (arith, leg-below c.args.s (sized (goal.at.marks_before-requires c).Start) c.requires))
+marks_before-requires c = omega (arith, leg-below c.args.s (sized (goal.at.marks_before-requires c).Start) c.requires)
 
 pub overflow_add-result : goal.overflow_add-result
 overflow_add-result c =

@@ -7,9 +7,11 @@ use Rattle.campaign_state.proofs.marks.mark_rank.Goals.{Start}
 sized : (c : Start) → Sized c.args.s
 sized c = record { starts = search rules; runs = search rules; panel = search rules }
 
+pub invariant_of-leg_at : goal.invariant_of-leg_at
+invariant_of-leg_at c = record { ruled = plan-ruled c.args.s (sized (goal.at.invariant_of-leg_at c).Start) c.requires.places }
+
 pub leg_at-l-requires : goal.leg_at-l-requires
-leg_at-l-requires c =
-    (plan-ruled c.args.s (sized (goal.at.leg_at-l-requires c).Start) c.requires.places, leg-below c.args.s (sized (goal.at.leg_at-l-requires c).Start) c.requires)
+leg_at-l-requires c = leg-below c.args.s (sized (goal.at.leg_at-l-requires c).Start) c.requires
 
 pub rank_along-requires : goal.rank_along-requires
 rank_along-requires c =

@@ -8,8 +8,8 @@ use Rattle.campaign_state.proofs.marks.plan_marks.Goals.{Start}
 sized : (c : Start) → Sized c.args.s
 sized c = record { starts = search rules; runs = search rules; panel = search rules }
 
-pub marks_before-requires : goal.marks_before-requires
-marks_before-requires c = (plan-ruled c.args.s (sized (goal.at.marks_before-requires c).Start) c.requires.places, search rules)
+pub invariant_of-marks_before : goal.invariant_of-marks_before
+invariant_of-marks_before c = record { ruled = plan-ruled c.args.s (sized (goal.at.invariant_of-marks_before c).Start) c.requires.places }
 
 pub returns : goal.returns
 returns c = c.marks_before.ensures ∙ all-marks c.args.s (sized (goal.at.returns c).Start) c.requires

@@ -9,7 +9,7 @@ returns-then-back c =
     c.backward.ensures ∙ ap (λ total. backward total c.args.start c.args.k) c.count_of-total.ensures
     ∙ along-back c.args.n c.requires.0 c.args.start c.args.back c.args.k c.requires.2 c.requires.3 c.if-back.true
 
-pub returns : goal.returns
-returns c =
+pub returns-else-back : goal.returns-else-back
+returns-else-back c =
     c.onward.ensures ∙ ap (λ total. onward total c.args.start c.args.k) c.count_of-total.ensures
     ∙ along-on c.args.n c.requires.0 c.args.start c.args.back c.args.k c.requires.2 c.requires.3 c.if-back.false
