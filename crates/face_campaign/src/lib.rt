@@ -11,7 +11,7 @@ ghost use Rattle.face_laws.specs.Values.{order_and_bytes, order_then, bytes_and_
 ghost use Rattle.face_laws.specs.Calls.{called_told, called_words, request_bytes, status_in, resume_told, resume_words, orders_told, orders_words, orders_bytes, begin_told, begin_words, rehearse_told, rehearse_words};
 
 use campaign::{Answer, Campaign};
-use campaign_onward::{Where, resume, status};
+use campaign_onward::{Whereabouts, resume, status};
 use face_state::places::{REHEARSAL_WORDS, STATE_WORDS};
 use face_state::rehearsals::{rehearsal_in, rehearsal_out};
 use face_state::{state_in, state_out};
@@ -20,7 +20,7 @@ use face_values::lines::give_line;
 use pattern_check::checking::check_panel;
 use printing::{Filled, fill, rehearse};
 use words::refusals::nowhere;
-use words::{Line, Outcome, Reason};
+use words::{Reason, Refusal};
 
 // ---- answers
 
@@ -38,11 +38,8 @@ fn give_order(order: Answer, bytes: u64, answer: &mut [u64; ANSWER_WORDS]) -> u8
     ensures words { answer.new ≡ words_told (order_then bytes) (answer_told order) }
 {
     match order {
-        Answer::Movement(o) => give_line(Line::Movement(o), bytes, answer),
-        Answer::Seat(jack) => give_line(Line::Seat(jack), bytes, answer),
-        Answer::Mark(number, rank) => give_line(Line::Mark(number, rank), bytes, answer),
-        Answer::End(marks) => give_line(Line::End(marks), bytes, answer),
-        Answer::Refused(f) => refuse(f, answer),
+        Ok(line) => give_line(line, bytes, answer),
+        Err(f) => refuse(f, answer),
     }
 }
 
@@ -59,13 +56,13 @@ fn give_filled(filled: Filled, answer: &mut [u64; ANSWER_WORDS]) -> u8
 }
 
 // Where a campaign is.
-fn give_where(found: Where, answer: &mut [u64; ANSWER_WORDS]) -> u8
+fn give_where(found: Result<Whereabouts, Refusal>, answer: &mut [u64; ANSWER_WORDS]) -> u8
     ensures number { result ≡ number_told (status_told found) }
     ensures words { answer.new ≡ words_told where_words (status_told found) }
 {
     match found {
-        Where::Refused(f) => refuse(f, answer),
-        Where::At(w) => give(
+        Err(f) => refuse(f, answer),
+        Ok(w) => give(
             answer,
             w.marks,
             w.number,
@@ -88,10 +85,8 @@ pub fn jidrofex_begin(text: &[u8], state: &mut [u64], answer: &mut [u64; ANSWER_
         return unfit(answer);
     }
     let begun = Campaign::begin(text);
-    let campaign = begun.campaign;
-    state_out(campaign.state, state);
-    let judged = begun.judged;
-    give_outcome(judged, answer)
+    state_out(begun.campaign.state, state);
+    give_outcome(begun.judged, answer)
 }
 
 // The next order, its line at the front of the buffer.
@@ -105,17 +100,12 @@ pub fn jidrofex_request(
     ensures left { state.new ≡ called_words (request (length buffer.old)) state.old }
     ensures bytes { buffer.new ≡ request_bytes state.old buffer.old }
 {
-    let held = state_in(state);
-    if held.known {
-        let s = held.state;
-        let campaign = Campaign { state: s };
-        let r = campaign.request(buffer);
-        let left = r.campaign;
-        state_out(left.state, state);
-        let order = r.answer;
-        return give_order(order, r.written as u64, answer);
-    }
-    unfit(answer)
+    let Some(s) = state_in(state) else {
+        return unfit(answer);
+    };
+    let r = Campaign { state: s }.request(buffer);
+    state_out(r.campaign.state, state);
+    give_order(r.answer, r.written as u64, answer)
 }
 
 // What the bench says of the standing mark.
@@ -124,17 +114,12 @@ pub fn jidrofex_report(state: &mut [u64], kind: u8, answer: &mut [u64; ANSWER_WO
     ensures words { answer.new ≡ words_told nothing (called_told (report kind) state.old) }
     ensures left { state.new ≡ called_words (report kind) state.old }
 {
-    let held = state_in(state);
-    if held.known {
-        let s = held.state;
-        let campaign = Campaign { state: s };
-        let r = campaign.report(kind);
-        let left = r.campaign;
-        state_out(left.state, state);
-        let outcome = r.answer;
-        return give_outcome(outcome, answer);
-    }
-    unfit(answer)
+    let Some(s) = state_in(state) else {
+        return unfit(answer);
+    };
+    let r = Campaign { state: s }.report(kind);
+    state_out(r.campaign.state, state);
+    give_outcome(r.answer, answer)
 }
 
 // What the bench says of the mark with this number.
@@ -148,17 +133,12 @@ pub fn jidrofex_report_mark(
     ensures words { answer.new ≡ words_told nothing (called_told (report_on mark kind) state.old) }
     ensures left { state.new ≡ called_words (report_on mark kind) state.old }
 {
-    let held = state_in(state);
-    if held.known {
-        let s = held.state;
-        let campaign = Campaign { state: s };
-        let r = campaign.report_mark(mark, kind);
-        let left = r.campaign;
-        state_out(left.state, state);
-        let outcome = r.answer;
-        return give_outcome(outcome, answer);
-    }
-    unfit(answer)
+    let Some(s) = state_in(state) else {
+        return unfit(answer);
+    };
+    let r = Campaign { state: s }.report_mark(mark, kind);
+    state_out(r.campaign.state, state);
+    give_outcome(r.answer, answer)
 }
 
 // Where a campaign is.
@@ -166,12 +146,10 @@ pub fn jidrofex_status(state: &[u64], answer: &mut [u64; ANSWER_WORDS]) -> u8
     ensures number { result ≡ number_told (status_in state.now) }
     ensures words { answer.new ≡ words_told where_words (status_in state.now) }
 {
-    let held = state_in(state);
-    if held.known {
-        let s = held.state;
-        return give_where(status(Campaign { state: s }), answer);
+    match state_in(state) {
+        Some(s) => give_where(status(Campaign { state: s }), answer),
+        None => unfit(answer),
     }
-    unfit(answer)
 }
 
 // The rehearsal of the plan that the text is.
@@ -184,10 +162,8 @@ pub fn jidrofex_rehearse(text: &[u8], rehearsal: &mut [u64], answer: &mut [u64; 
         return unfit(answer);
     }
     let rehearsed = rehearse(text);
-    let first = rehearsed.rehearsal;
-    rehearsal_out(first, rehearsal);
-    let judged = rehearsed.judged;
-    give_outcome(judged, answer)
+    rehearsal_out(rehearsed.rehearsal, rehearsal);
+    give_outcome(rehearsed.judged, answer)
 }
 
 // The state with the panel as it was read back and its seats begun anew, to go on from after a power cut.
@@ -196,19 +172,15 @@ pub fn jidrofex_resume(state: &mut [u64], panel: &[u8], answer: &mut [u64; ANSWE
     ensures words { answer.new ≡ words_told nothing (resume_told panel.now state.old) }
     ensures left { state.new ≡ resume_words panel.now state.old }
 {
-    let held = state_in(state);
-    if held.known {
-        let s = held.state;
-        let r = resume(Campaign { state: s }, panel);
-        let left = r.campaign;
-        state_out(left.state, state);
-        let judged = r.judged;
-        return give_outcome(judged, answer);
-    }
-    match check_panel(panel) {
-        Outcome::Refused(f) => refuse(f, answer),
-        Outcome::Accepted => unfit(answer),
-    }
+    let Some(s) = state_in(state) else {
+        return match check_panel(panel) {
+            Ok(()) => unfit(answer),
+            Err(f) => refuse(f, answer),
+        };
+    };
+    let r = resume(Campaign { state: s }, panel);
+    state_out(r.campaign.state, state);
+    give_outcome(r.judged, answer)
 }
 
 // As many whole lines as fit the buffer, every mark taken as run.
@@ -222,13 +194,10 @@ pub fn jidrofex_orders(
     ensures left { rehearsal.new ≡ orders_words (length buffer.old) rehearsal.old }
     ensures bytes { buffer.new ≡ orders_bytes rehearsal.old buffer.old }
 {
-    let held = rehearsal_in(rehearsal);
-    if held.known {
-        let printed = fill(held.rehearsal, buffer);
-        let left = printed.rehearsal;
-        rehearsal_out(left, rehearsal);
-        let filled = printed.filled;
-        return give_filled(filled, answer);
-    }
-    unfit(answer)
+    let Some(r) = rehearsal_in(rehearsal) else {
+        return unfit(answer);
+    };
+    let printed = fill(r, buffer);
+    rehearsal_out(printed.rehearsal, rehearsal);
+    give_filled(printed.filled, answer)
 }

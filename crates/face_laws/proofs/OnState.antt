@@ -12,8 +12,6 @@ use Rattle.words.specs.Meaning.{order_of, outcome_told}
 use Rattle.words.specs.declared.Line.TheVariants.{Movement}
 use Rattle.words.specs.declared.Order.{Order}
 use Rattle.words.specs.declared.Order.TheVariants.{Swap, Turn}
-use Rattle.words.specs.declared.Outcome.{Outcome}
-use Rattle.words.specs.declared.Outcome.TheVariants.{Accepted, Refused}
 use Rattle.promise.specs.Campaign as model
 use Rattle.promise.specs.Campaign.{movement, seat, mark, the_end, taken, refusal}
 use Rattle.plans.specs.Calls.{read_plan_of}
@@ -25,6 +23,9 @@ use Rattle.face_values.specs.Lines.{line_words}
 use Rattle.face_values.proofs.Tells.{Tells}
 use Rattle.face_laws.specs.Values.{order_and_bytes, order_then}
 use Rattle.face_laws.specs.Calls.{Crossing, on_words, left_in, words_left, bytes_in, bytes_left, judged_for, begun_with}
+use Rattle.std.specs.declared.result.Result.{Result}
+use Rattle.std.specs.declared.result.Result.TheVariants.{Ok, Err}
+use Rattle.words.specs.declared.Refusal.{Refusal}
 
 -- ---- words that are one
 
@@ -90,9 +91,9 @@ pub order-bytes : (a : model.Answer) {n m : ℕ} {w : List ℕ} → n ≡ width 
 order-bytes a e t = (t.0, t.1 ∙ by_width a e)
 
 -- a report tells what its outcome tells
-pub heard : (o : Outcome) {n : ℕ} {w : List ℕ} → Tells nothing (outcome_told o) n w → Tells nothing (heard_told o) n w
-heard Accepted t = t
-heard (Refused f) t = t
+pub heard : (o : Result (Unit {0}) Refusal) {n : ℕ} {w : List ℕ} → Tells nothing (outcome_told o) n w → Tells nothing (heard_told o) n w
+heard (Ok tt) t = t
+heard (Err f) t = t
 
 -- ---- the beginning
 

@@ -11,7 +11,6 @@ ghost use Rattle.face_laws.specs.Values.{line_and_place};
 
 use face_values::answers::{ANSWER_WORDS, give_numbered, refuse};
 use face_values::lines::{LINE_WORDS, give_line, line_in};
-use line_reader::answers::ReadLine;
 use line_reader::order_lines::read_line;
 use line_writer::answers::bytes_number;
 use line_writer::order_lines::write_line;
@@ -35,7 +34,7 @@ pub fn jidrofex_read_line(text: &[u8], place: usize, answer: &mut [u64; ANSWER_W
     ensures words { answer.new ≡ words_told line_and_place (read_of largest64 most_ports text.now place) }
 {
     match read_line(text, place) {
-        ReadLine::Refused(f) => refuse(f, answer),
-        ReadLine::Read(line, next) => give_line(line, next as u64, answer),
+        Err(f) => refuse(f, answer),
+        Ok((line, next)) => give_line(line, next as u64, answer),
     }
 }

@@ -11,32 +11,25 @@ ghost use Rattle.face_values.specs.Lines.{line_in};
 
 use face_values::answers::{ANSWER_WORDS, give_numbered, give_outcome};
 use face_values::lines::{LINE_WORDS, line_in};
-use panel::answers::{Found, Looked};
 use panel::lines::carry;
 use panel::lookups::{jack_of, port_at};
-use words::{Jack, Numbered, Port};
+use words::{Jack, Port, Refusal};
 
 // The number of the port that was looked up.
-fn port_number(looked: Looked) -> Numbered
+fn port_number(looked: Result<Port, Refusal>) -> Result<u64, Refusal>
     ensures { numbered_told result ≡ looked_told looked }
 {
-    match looked {
-        Looked::Refused(f) => Numbered::Refused(f),
-        Looked::Joined(port) => Numbered::Is(port.0 as u64),
-    }
+    looked.map(|port| port.0 as u64)
 }
 
 // The number of the jack that was found.
-fn jack_number(found: Found) -> Numbered
+fn jack_number(found: Result<Jack, Refusal>) -> Result<u64, Refusal>
     ensures { numbered_told result ≡ found_told found }
 {
-    match found {
-        Found::Refused(f) => Numbered::Refused(f),
-        Found::Held(jack) => Numbered::Is(jack.0 as u64),
-    }
+    found.map(|jack| jack.0 as u64)
 }
 
-// The port at a jack.
+// The port at a jack. (It and the next differ in types that are not to be taken for one another.)
 pub fn jidrofex_port_at(panel: &[u8], jack: u8, answer: &mut [u64; ANSWER_WORDS]) -> u8
     ensures number { result ≡ number_told (port_of most_ports panel.now jack) }
     ensures words { answer.new ≡ words_told one_number (port_of most_ports panel.now jack) }

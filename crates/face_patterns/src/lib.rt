@@ -12,19 +12,19 @@ ghost use Rattle.face_values.specs.Lines.{move_words};
 use face_values::answers::{ANSWER_WORDS, give_numbered, give_outcome, refuse};
 use face_values::lines::give_move;
 use pattern_check::checking::{check, check_panel};
-use patterns::answers::Moved;
 use patterns::counting::{count, step};
 use patterns::neighbours::{next, previous};
 use patterns::ranking::{rank, unrank};
+use words::{Move, Refusal};
 
 // The answer of a call that gives a move.
-fn give_moved(moved: Moved, answer: &mut [u64; ANSWER_WORDS]) -> u8
+fn give_moved(moved: Result<Move, Refusal>, answer: &mut [u64; ANSWER_WORDS]) -> u8
     ensures number { result ≡ number_told (moved_told moved) }
     ensures words { answer.new ≡ words_told move_words (moved_told moved) }
 {
     match moved {
-        Moved::Refused(f) => refuse(f, answer),
-        Moved::By(m) => give_move(m, answer),
+        Err(f) => refuse(f, answer),
+        Ok(m) => give_move(m, answer),
     }
 }
 

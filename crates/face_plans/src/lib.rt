@@ -8,16 +8,18 @@ ghost use Rattle.face_values.specs.Answers.{number_told, words_told};
 ghost use Rattle.face_laws.specs.Values.{names_words};
 
 use face_values::answers::{ANSWER_WORDS, give, refuse};
-use plan_named::{Survey, named};
+use plan_arcs::gaps::Tally;
+use plan_named::named;
+use words::Refusal;
 
 // How many ranks are named, and how many gaps there are.
-fn give_survey(survey: Survey, answer: &mut [u64; ANSWER_WORDS]) -> u8
+fn give_survey(survey: Result<Tally, Refusal>, answer: &mut [u64; ANSWER_WORDS]) -> u8
     ensures number { result ≡ number_told (survey_told survey) }
     ensures words { answer.new ≡ words_told names_words (survey_told survey) }
 {
     match survey {
-        Survey::Refused(f) => refuse(f, answer),
-        Survey::Names(tally) => give(answer, tally.named, tally.gaps, 0, 0, 0),
+        Err(f) => refuse(f, answer),
+        Ok(tally) => give(answer, tally.named, tally.gaps, 0, 0, 0),
     }
 }
 

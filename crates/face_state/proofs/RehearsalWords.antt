@@ -19,10 +19,7 @@ use Rattle.campaign_state.proofs.Places.{Sized}
 use Rattle.printing.specs.Rehearsals.{rehearsal_of, state_with}
 use Rattle.printing.specs.declared.Rehearsal.{Rehearsal}
 use Rattle.face_state.specs.States.{starts_place, runs_place, panel_place, ended_place, state_count, run_bits, run_in, bit, state_words, limits, within, word, words_at, state_at, state_in}
-use Rattle.face_state.specs.Rehearsals.{end_place, rehearsal_count, rehearsal_words, widened, rehearsal_in, held_rehearsal_is}
-use Rattle.face_state.specs.Held.{held_is}
-use Rattle.face_state.specs.declared.Held.{Held}
-use Rattle.face_state.specs.declared.rehearsals.HeldRehearsal.{HeldRehearsal}
+use Rattle.face_state.specs.Rehearsals.{end_place, rehearsal_count, rehearsal_words, widened, rehearsal_in}
 use Rattle.face_state.proofs.Parts.{past, inside, drop_past}
 use Rattle.face_state.proofs.Within.{within-length, not-as-many}
 use Rattle.face_state.proofs.StateWords.{bits-length, is_state, no-state, state-length}
@@ -201,23 +198,3 @@ module _ (ws : List ℕ) (r : Rehearsal) (e : rehearsal_in ws ≡ some r) where
 -- no words are a state and a rehearsal
 pub never_both : (ws : List ℕ) (s : State) (r : Rehearsal) → some s ≡ state_in ws → rehearsal_in ws ≡ some r → ⊥
 never_both ws s r e f = omega (arith, state-length ws e, words-many ws r f)
-
--- ---- what the code has of words
-
--- a state that is known, without its counts
-known_kept : (b : Bool) (s : State) → cond b (some (rehearsal_of s)) none ≡ Option.map rehearsal_of (cond b (some s) none)
-known_kept true s = refl
-known_kept false s = refl
-
-pub held_kept : (h : Held) (ws : List ℕ) → held_is h ≡ state_in (widened ws) → cond h.known (some (rehearsal_of h.state)) none ≡ rehearsal_in ws
-unfolding rehearsal_in
-held_kept h ws e = known_kept h.known h.state ∙ ap (Option.map rehearsal_of) e
-
-module _ (h : HeldRehearsal) {o : Option Rehearsal} (e : held_rehearsal_is h ≡ o) where
-  -- a rehearsal that is known is the one that they are
-  pub held-rehearsal : h.known ≡ true → some h.rehearsal ≡ o
-  held-rehearsal t = ap (λ b. cond b (some h.rehearsal) none) (sym t) ∙ e
-
-  -- else they are none
-  pub held-no-rehearsal : h.known ≡ false → none ≡ o
-  held-no-rehearsal t = ap (λ b. cond b (some h.rehearsal) none) (sym t) ∙ e

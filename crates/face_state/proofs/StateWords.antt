@@ -19,8 +19,7 @@ use Rattle.campaign_state.specs.declared.State.{State}
 use Rattle.campaign_state.proofs.Places.{Sized}
 use Rattle.face_values.specs.Lines.{largest8}
 use Rattle.face_state.specs.States.{ports_place, legs_place, starts_place, runs_place, panel_place, leg_place, step_place, covered_place, open_place, errors_place, standing_place, ended_place, seat_place, state_count, run_bits, bit, last_words, state_words, limits, within, word, state_at, state_in}
-use Rattle.face_state.specs.Held.{held_is, WordsFit}
-use Rattle.face_state.specs.declared.Held.{Held}
+use Rattle.face_state.specs.Held.{WordsFit}
 use Rattle.face_state.proofs.Parts.{past, inside, run_at}
 use Rattle.face_state.proofs.Within.{within-length, within-at}
 
@@ -138,15 +137,6 @@ byte-bit true = refl
 byte-bit false = refl
 
 -- ---- what the code has of words
-
-module _ (h : Held) {o : Option State} (e : held_is h ≡ o) where
-  -- a state that fits is the one that they are
-  pub held-state : h.known ≡ true → some h.state ≡ o
-  held-state t = ap (λ b. cond b (some h.state) none) (sym t) ∙ e
-
-  -- else they are none
-  pub held_none : h.known ≡ false → none ≡ o
-  held_none t = ap (λ b. cond b (some h.state) none) (sym t) ∙ e
 
 -- words that are a state are 62
 pub state-length : (ws : List ℕ) {s : State} → some s ≡ state_in ws → length ws ≡ state_count

@@ -6,11 +6,13 @@ use Rattle.listing.specs.Limits.{most_ports}
 use Rattle.campaign_state.specs.declared.State.{State}
 use Rattle.face_values.specs.Lines.{largest8}
 use Rattle.face_state.specs.States.{ports_place, legs_place, panel_place, leg_place, errors_place, seat_place, state_count, largest32, word}
-use Rattle.face_state.specs.declared.Held.{Held}
+use Rattle.std.specs.declared.option.Option.{Option as Maybe}
+use Rattle.std.specs.declared.option.Option.TheVariants.{Some, None}
 
 -- the state, if the words are one
-abbrev pub held_is : Held → Option State
-held_is h = cond h.known (some h.state) none
+abbrev pub held_is : Maybe State → Option State
+held_is (Some s) = some s
+held_is None = none
 
 -- as many words as a state has, and in each that goes into a smaller field a number that this holds
 pub record WordsFit (ws : List ℕ) : Type 0 where

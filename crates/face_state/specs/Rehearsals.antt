@@ -6,7 +6,8 @@ use Rattle.std.proofs.Math.Option.{Option, none, some}
 use Rattle.printing.specs.Rehearsals.{rehearsal_of}
 use Rattle.printing.specs.declared.Rehearsal.{Rehearsal}
 use Rattle.face_state.specs.States.{step_place, run_bits, bit, state_in}
-use Rattle.face_state.specs.declared.rehearsals.HeldRehearsal.{HeldRehearsal}
+use Rattle.std.specs.declared.option.Option.{Option as Maybe}
+use Rattle.std.specs.declared.option.Option.TheVariants.{Some, None}
 
 -- ---- the places: those of a state up to the step, then JIDROFEX_REHEARSAL_ENDED; JIDROFEX_REHEARSAL_WORDS
 
@@ -33,5 +34,6 @@ unfoldable pub rehearsal_in : List ℕ → Option Rehearsal
 rehearsal_in ws = Option.map rehearsal_of (state_in (widened ws))
 
 -- the rehearsal of an answer of the code, if the words are one
-abbrev pub held_rehearsal_is : HeldRehearsal → Option Rehearsal
-held_rehearsal_is h = cond h.known (some h.rehearsal) none
+abbrev pub held_rehearsal_is : Maybe Rehearsal → Option Rehearsal
+held_rehearsal_is (Some r) = some r
+held_rehearsal_is None = none

@@ -18,13 +18,6 @@ use plan_rules::Plan;
 use words::limits::{LARGEST, LEG_PLACES, LONGEST, SIGNED_LIMIT};
 use words::signs::by_sign;
 
-// Whether words are a state, and that state; all zeros if they are none.
-#[derive(Clone, Copy)]
-pub struct Held {
-    pub known: bool,
-    pub state: State,
-}
-
 // ---- the state that words are
 
 // What the field at a place can hold at most.
@@ -53,19 +46,17 @@ fn limit_of(at: usize) -> u64
     LARGEST8
 }
 
-// Whether there are as many words as a state has, and each is one that its field holds.
+// Whether there are as many words as a state has, and each is one that its field holds. (The first that is not decides, so it returns from the loop.)
 fn words_fit(words: &[u64]) -> bool
     ensures { result ≡ within words.now limits }
 {
     if words.len() != STATE_WORDS {
         return false;
     }
-    let mut at: usize = 0;
-    while at < STATE_WORDS {
+    for at in 0..STATE_WORDS {
         if limit_of(at) < words[at] {
             return false;
         }
-        at += 1;
     }
     true
 }
@@ -75,9 +66,10 @@ fn run_in(w: u64) -> i64
     ensures { result ≡ run_in w }
 {
     if w < SIGNED_LIMIT {
-        return w as i64;
+        w as i64
+    } else {
+        -1 - (LARGEST - w) as i64
     }
-    -1 - (LARGEST - w) as i64
 }
 
 // The plan: its legs' starts and runs, one leg after the other.
@@ -87,17 +79,15 @@ fn plan_in(words: &[u64]) -> Plan
 {
     let mut starts = [0u64; LEG_PLACES];
     let mut runs = [0i64; LEG_PLACES];
-    let mut i: usize = 0;
-    while i < LEG_PLACES {
+    for i in 0..LEG_PLACES {
         starts[i] = words[STARTS + i];
         runs[i] = run_in(words[RUNS + i]);
-        i += 1;
     }
     Plan {
         ports: words[PORTS] as u8,
         legs: words[LEGS] as u8,
-        starts: starts,
-        runs: runs,
+        starts,
+        runs,
     }
 }
 
@@ -107,10 +97,8 @@ fn panel_in(words: &[u64]) -> [u8; LONGEST]
     ensures { result ≡ (state_at words.now).panel }
 {
     let mut panel = [0u8; LONGEST];
-    let mut i: usize = 0;
-    while i < LONGEST {
+    for i in 0..LONGEST {
         panel[i] = words[PANEL + i] as u8;
-        i += 1;
     }
     panel
 }
@@ -135,19 +123,13 @@ fn state_at(words: &[u64]) -> State
 }
 
 // The state that words are.
-pub fn state_in(words: &[u64]) -> Held
+pub fn state_in(words: &[u64]) -> Option<State>
     ensures { held_is result ≡ state_in words.now }
 {
     if words_fit(words) {
-        return Held {
-            known: true,
-            state: state_at(words),
-        };
-    }
-    let zeros = [0u64; STATE_WORDS];
-    Held {
-        known: false,
-        state: state_at(&zeros),
+        Some(state_at(words))
+    } else {
+        None
     }
 }
 
@@ -159,9 +141,10 @@ fn run_bits(run: i64) -> u64
 {
     let by = by_sign(run);
     if by.back {
-        return LARGEST - (by.magnitude - 1);
+        LARGEST - (by.magnitude - 1)
+    } else {
+        by.magnitude
     }
-    by.magnitude
 }
 
 // The words from the leg on: leg, step, covered, open, errors, standing, ended, seat.
@@ -194,16 +177,13 @@ pub fn word_of(s: State, at: usize) -> u64
         return plan.legs as u64;
     }
     if at < RUNS {
-        let starts = plan.starts;
-        return starts[at - STARTS];
+        return plan.starts[at - STARTS];
     }
     if at < PANEL {
-        let runs = plan.runs;
-        return run_bits(runs[at - RUNS]);
+        return run_bits(plan.runs[at - RUNS]);
     }
     if at < LEG {
-        let panel = s.panel;
-        return panel[at - PANEL] as u64;
+        return s.panel[at - PANEL] as u64;
     }
     last_word(s, at - LEG)
 }
@@ -213,9 +193,7 @@ pub fn state_out(s: State, words: &mut [u64])
     requires { length words.old ≡ state_count }
     ensures { words.new ≡ state_words s }
 {
-    let mut at: usize = 0;
-    while at < STATE_WORDS {
+    for at in 0..STATE_WORDS {
         words[at] = word_of(s, at);
-        at += 1;
     }
 }

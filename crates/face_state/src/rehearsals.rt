@@ -10,16 +10,9 @@ use campaign_state::State;
 use printing::Rehearsal;
 use printing::rehearsals::{rehearsal_of, state_of};
 
-// Whether words are a rehearsal, and that rehearsal.
-#[derive(Clone, Copy)]
-pub struct HeldRehearsal {
-    pub known: bool,
-    pub rehearsal: Rehearsal,
-}
-
 // The word at a place of the state that has no counts and no seat.
-fn wide_word(words: &[u64], at: usize) -> u64
-    requires { (length words.now ≡ rehearsal_count) × (at < state_count) }
+fn wide_word(words: &[u64; REHEARSAL_WORDS], at: usize) -> u64
+    requires { at < state_count }
     ensures { result ≡ word (widened words.now) at }
 {
     if at < REHEARSAL_ENDED {
@@ -32,39 +25,25 @@ fn wide_word(words: &[u64], at: usize) -> u64
 }
 
 // The words of the state that has no counts and no seat.
-fn wide(words: &[u64]) -> [u64; STATE_WORDS]
-    requires { length words.now ≡ rehearsal_count }
+fn wide(words: &[u64; REHEARSAL_WORDS]) -> [u64; STATE_WORDS]
     ensures { result ≡ widened words.now }
 {
     let mut state = [0u64; STATE_WORDS];
-    let mut at: usize = 0;
-    while at < STATE_WORDS {
+    for at in 0..STATE_WORDS {
         state[at] = wide_word(words, at);
-        at += 1;
     }
     state
 }
 
 // The rehearsal that words are.
-pub fn rehearsal_in(words: &[u64]) -> HeldRehearsal
+pub fn rehearsal_in(words: &[u64]) -> Option<Rehearsal>
     ensures { held_rehearsal_is result ≡ rehearsal_in words.now }
 {
-    if words.len() != REHEARSAL_WORDS {
-        let zeros = [0u64; STATE_WORDS];
-        let none = state_in(&zeros);
-        let s = none.state;
-        return HeldRehearsal {
-            known: false,
-            rehearsal: rehearsal_of(s),
-        };
-    }
-    let state = wide(words);
-    let held = state_in(&state);
-    let s = held.state;
-    HeldRehearsal {
-        known: held.known,
-        rehearsal: rehearsal_of(s),
-    }
+    let Ok(words) = <&[u64; REHEARSAL_WORDS]>::try_from(words) else {
+        return None;
+    };
+    let s = state_in(&wide(words))?;
+    Some(rehearsal_of(s))
 }
 
 // The word at a place of a rehearsal, by the state that it stands for.
@@ -73,9 +52,10 @@ fn word_in(s: State, at: usize) -> u64
     ensures { result ≡ word (rehearsal_words (rehearsal_of s)) at }
 {
     if at < REHEARSAL_ENDED {
-        return word_of(s, at);
+        word_of(s, at)
+    } else {
+        s.ended as u64
     }
-    s.ended as u64
 }
 
 // A rehearsal put into the words that it takes.
@@ -84,9 +64,7 @@ pub fn rehearsal_out(r: Rehearsal, words: &mut [u64])
     ensures { words.new ≡ rehearsal_words r }
 {
     let s = state_of(r);
-    let mut at: usize = 0;
-    while at < REHEARSAL_WORDS {
+    for at in 0..REHEARSAL_WORDS {
         words[at] = word_in(s, at);
-        at += 1;
     }
 }

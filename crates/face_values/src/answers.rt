@@ -4,8 +4,8 @@ ghost use Rattle.words.specs.Told.{spot_number, earlier_number};
 ghost use Rattle.words.specs.Meaning.{number_of, spot_of, outcome_told, numbered_told};
 ghost use Rattle.face_values.specs.Answers.{five, number_told, words_told, nothing, one_number};
 
+use words::Refusal;
 use words::refusals::{earlier_number, place_number, reason_number};
-use words::{Numbered, Outcome, Refusal};
 
 // JIDROFEX_ANSWER_WORDS
 pub const ANSWER_WORDS: usize = 5;
@@ -24,8 +24,7 @@ pub fn refuse(f: Refusal, answer: &mut [u64; ANSWER_WORDS]) -> u8
     ensures number { result ≡ number_of f.reason }
     ensures words { answer.new ≡ five (spot_number (spot_of f.place) ∷ earlier_number (spot_of f.place) ∷ []) }
 {
-    let place = f.place;
-    let reason = f.reason;
+    let Refusal { reason, place } = f;
     give(
         answer,
         place_number(place) as u64,
@@ -38,23 +37,23 @@ pub fn refuse(f: Refusal, answer: &mut [u64; ANSWER_WORDS]) -> u8
 }
 
 // The answer of a call that gives nothing.
-pub fn give_outcome(outcome: Outcome, answer: &mut [u64; ANSWER_WORDS]) -> u8
+pub fn give_outcome(outcome: Result<(), Refusal>, answer: &mut [u64; ANSWER_WORDS]) -> u8
     ensures number { result ≡ number_told (outcome_told outcome) }
     ensures words { answer.new ≡ words_told nothing (outcome_told outcome) }
 {
     match outcome {
-        Outcome::Refused(f) => refuse(f, answer),
-        Outcome::Accepted => give(answer, 0, 0, 0, 0, 0),
+        Ok(()) => give(answer, 0, 0, 0, 0, 0),
+        Err(f) => refuse(f, answer),
     }
 }
 
 // The answer of a call that gives one number.
-pub fn give_numbered(numbered: Numbered, answer: &mut [u64; ANSWER_WORDS]) -> u8
+pub fn give_numbered(numbered: Result<u64, Refusal>, answer: &mut [u64; ANSWER_WORDS]) -> u8
     ensures number { result ≡ number_told (numbered_told numbered) }
     ensures words { answer.new ≡ words_told one_number (numbered_told numbered) }
 {
     match numbered {
-        Numbered::Refused(f) => refuse(f, answer),
-        Numbered::Is(k) => give(answer, k, 0, 0, 0, 0),
+        Ok(k) => give(answer, k, 0, 0, 0, 0),
+        Err(f) => refuse(f, answer),
     }
 }

@@ -33,33 +33,25 @@ pub const LARGEST8: u64 = 255;
 fn jack_in(w: u64) -> Jack
     ensures { result ≡ jack_in w }
 {
-    if w <= LARGEST8 {
-        return Jack(w as u8);
-    }
-    Jack(0)
+    Jack(u8::try_from(w).unwrap_or(0))
 }
 
 // The line that words mean.
 pub fn line_in(words: &[u64; LINE_WORDS]) -> Line
     ensures { result ≡ line_in words.now }
 {
-    let kind = words[0];
-    if kind == SWAP {
-        return Line::Movement(Order::Swap(jack_in(words[1]), jack_in(words[2])));
+    match words[0] {
+        SWAP => Line::Movement(Order::Swap(jack_in(words[1]), jack_in(words[2]))),
+        TURN => Line::Movement(Order::Turn(
+            jack_in(words[1]),
+            jack_in(words[2]),
+            jack_in(words[3]),
+        )),
+        MARK => Line::Mark(words[1], words[2]),
+        END => Line::End(words[1]),
+        SEAT => Line::Seat(jack_in(words[1])),
+        _ => Line::Movement(Order::Swap(Jack(0), Jack(0))),
     }
-    if kind == TURN {
-        return Line::Movement(Order::Turn(jack_in(words[1]), jack_in(words[2]), jack_in(words[3])));
-    }
-    if kind == MARK {
-        return Line::Mark(words[1], words[2]);
-    }
-    if kind == END {
-        return Line::End(words[1]);
-    }
-    if kind == SEAT {
-        return Line::Seat(jack_in(words[1]));
-    }
-    Line::Movement(Order::Swap(Jack(0), Jack(0)))
 }
 
 // A movement's words and one word after them.

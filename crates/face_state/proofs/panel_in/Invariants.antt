@@ -10,6 +10,3 @@ use Rattle.face_state.proofs.panel_in.Given as goal
 
 abbrev pub invariant-loop-i : goal.invariant-loop-i
 invariant-loop-i l = (l.i ≤ most_ports) × (length l.words ≡ state_count) × (length l.panel ≡ most_ports) × Filled (λ (w : ℕ). w) l.words panel_place l.panel l.i
-
-abbrev pub decreases-loop-i : goal.decreases-loop-i
-decreases-loop-i l = most_ports - l.i

@@ -16,6 +16,3 @@ abbrev pub invariant-loop-i : goal.invariant-loop-i
 invariant-loop-i l =
     (l.i ≤ most_legs) × (length l.words ≡ state_count) × (length l.starts ≡ most_legs) × (length l.runs ≡ most_legs)
     × Filled same l.words starts_place l.starts l.i × Filled run_in l.words runs_place l.runs l.i
-
-abbrev pub decreases-loop-i : goal.decreases-loop-i
-decreases-loop-i l = most_legs - l.i

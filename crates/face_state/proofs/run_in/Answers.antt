@@ -7,5 +7,5 @@ use Rattle.face_state.proofs.run_in.Goals as goal
 pub returns-then-w-lt-SIGNED_LIMIT : goal.returns-then-w-lt-SIGNED_LIMIT
 returns-then-w-lt-SIGNED_LIMIT c = ahead_in c.args.w c.if-w-lt-SIGNED_LIMIT.true
 
-pub returns : goal.returns
-returns c = behind-in c.args.w (omega arith) c.if-w-lt-SIGNED_LIMIT.false
+pub returns-else-w-lt-SIGNED_LIMIT : goal.returns-else-w-lt-SIGNED_LIMIT
+returns-else-w-lt-SIGNED_LIMIT c = behind-in c.args.w (omega arith) c.if-w-lt-SIGNED_LIMIT.false

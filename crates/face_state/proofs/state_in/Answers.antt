@@ -2,8 +2,7 @@
 -- Assumes nothing.
 use mathlib.Core.Path.{◌≡◌, refl, sym, ◌∙◌}
 use mathlib.Core.Bool.{true}
-use lib.ListN.{replicate}
-use Rattle.face_state.specs.States.{state_count, limits, within}
+use Rattle.face_state.specs.States.{limits, within}
 use Rattle.face_state.proofs.StateWords.{words-fit, is_state, no-state}
 use Rattle.face_state.proofs.state_in.Goals as goal
 use Rattle.face_state.proofs.state_in.Goals.{Then-words_fit}
@@ -18,10 +17,5 @@ state_at-requires c = words-fit c.args.words.now (passed c)
 pub returns-then-words_fit : goal.returns-then-words_fit
 returns-then-words_fit c = is_state c.args.words.now (passed (goal.at.returns-then-words_fit c).Then-words_fit) _ c.state_at.ensures
 
--- zeros are words of a state
-pub state_at-requires-2 : goal.state_at-requires-2
-unfolding within
-state_at-requires-2 c = words-fit (replicate state_count 0) refl
-
-pub returns : goal.returns
-returns c = no-state c.args.words.now (sym c.words_fit.ensures ∙ c.if-words_fit.false)
+pub returns-else-words_fit : goal.returns-else-words_fit
+returns-else-words_fit c = no-state c.args.words.now (sym c.words_fit.ensures ∙ c.if-words_fit.false)

@@ -8,6 +8,3 @@ use Rattle.face_state.proofs.state_out.Given as goal
 
 abbrev pub invariant-loop-at : goal.invariant-loop-at
 invariant-loop-at l = (l.at ≤ state_count) × (length l.words ≡ state_count) × (take l.at l.words ≡ take l.at (state_words l.s))
-
-abbrev pub decreases-loop-at : goal.decreases-loop-at
-decreases-loop-at l = state_count - l.at

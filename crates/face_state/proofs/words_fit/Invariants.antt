@@ -7,6 +7,3 @@ use Rattle.face_state.proofs.words_fit.Given as goal
 
 abbrev pub invariant-loop-at : goal.invariant-loop-at
 invariant-loop-at l = (l.at ≤ state_count) × ((k : ℕ) → k < l.at → get_or l.words k 0 ≤ get_or limits k 0)
-
-abbrev pub decreases-loop-at : goal.decreases-loop-at
-decreases-loop-at l = state_count - l.at

@@ -9,6 +9,3 @@ use Rattle.face_state.proofs.rehearsals.rehearsal_out.Given as goal
 
 abbrev pub invariant-loop-at : goal.invariant-loop-at
 invariant-loop-at l = (l.at ≤ rehearsal_count) × (length l.words ≡ rehearsal_count) × (take l.at l.words ≡ take l.at (rehearsal_words (rehearsal_of l.s)))
-
-abbrev pub decreases-loop-at : goal.decreases-loop-at
-decreases-loop-at l = rehearsal_count - l.at

@@ -18,11 +18,11 @@ loop-at-preserved c =
       search rules,
       search rules,
       ap (λ v. take (c.loop-at.at + 1) (set c.loop-at.state c.loop-at.at v)) c.wide_word.ensures
-          ∙ copy_stored t c.loop-at.state c.loop-at.at (omega arith) (omega (arith, wide-many c.args.words.now c.requires)) c.loop-at.invariant.2,
+          ∙ copy_stored t c.loop-at.state c.loop-at.at (omega arith) (omega (arith, wide-many c.args.words.now c.told-words)) c.loop-at.invariant.2,
     )
 
 pub returns : goal.returns
 returns c =
     let t = widened c.args.words.now in
     copy-all t c.loop-at.state c.loop-at.at state_count (omega arith) c.loop-at.invariant.1 c.loop-at.invariant.2
-    ∙ take_all state_count t (omega (arith, wide-many c.args.words.now c.requires))
+    ∙ take_all state_count t (omega (arith, wide-many c.args.words.now c.told-words))

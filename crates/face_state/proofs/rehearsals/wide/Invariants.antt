@@ -9,6 +9,3 @@ use Rattle.face_state.proofs.rehearsals.wide.Given as goal
 
 abbrev pub invariant-loop-at : goal.invariant-loop-at
 invariant-loop-at l = (l.at ≤ state_count) × (length l.state ≡ state_count) × (take l.at l.state ≡ take l.at (widened l.words))
-
-abbrev pub decreases-loop-at : goal.decreases-loop-at
-decreases-loop-at l = state_count - l.at

@@ -8,12 +8,12 @@ use Rattle.face_state.proofs.rehearsals.wide_word.Goals as goal
 
 pub returns-then-at-lt-REHEARSAL_ENDED : goal.returns-then-at-lt-REHEARSAL_ENDED
 returns-then-at-lt-REHEARSAL_ENDED c =
-    wide-front c.args.words.now c.requires.0 c.args.at c.if-at-lt-REHEARSAL_ENDED.true
+    wide-front c.args.words.now c.told-words c.args.at c.if-at-lt-REHEARSAL_ENDED.true
 
 pub returns-then-at-ne-ENDED : goal.returns-then-at-ne-ENDED
 returns-then-at-ne-ENDED c =
-    wide-none c.args.words.now c.requires.0 c.args.at c.if-at-lt-REHEARSAL_ENDED.false c.requires.1 c.if-at-ne-ENDED.true
+    wide-none c.args.words.now c.told-words c.args.at c.if-at-lt-REHEARSAL_ENDED.false c.requires c.if-at-ne-ENDED.true
 
 pub returns : goal.returns
 returns c =
-    wide-end c.args.words.now c.requires.0 ∙ ap (word (widened c.args.words.now)) (sym c.if-at-ne-ENDED.false)
+    wide-end c.args.words.now c.told-words ∙ ap (word (widened c.args.words.now)) (sym c.if-at-ne-ENDED.false)

@@ -1,27 +1,27 @@
 -- `face_values::lines::line_in`: the first word decides what the others mean.
 -- Assumes nothing.
 use mathlib.Core.Path.{ap, ◌∙◌}
+use native.Mathlib.Omega.{arith}
 use Rattle.words.specs.declared.Line.TheVariants.{Seat}
 use Rattle.face_values.proofs.LineWords.{swap-of, turn-of, from-swap, from-turn, from-mark, from_end, from-seat, from-none}
 use Rattle.face_values.proofs.lines.line_in.Goals as goal
 
-pub returns-then-kind-eq-SWAP : goal.returns-then-kind-eq-SWAP
-returns-then-kind-eq-SWAP c =
-    swap-of c.jack_in.ensures c.jack_in-then-kind-eq-SWAP.ensures ∙ from-swap _ _ _ _ c.if-kind-eq-SWAP.true
+pub returns-in-1 : goal.returns-in-1
+returns-in-1 c = swap-of c.jack_in.ensures c.jack_in-in-1.ensures ∙ from-swap _ _ _ _ c.in-1.is
 
-pub returns-then-kind-eq-TURN : goal.returns-then-kind-eq-TURN
-returns-then-kind-eq-TURN c =
-    turn-of c.jack_in-then-kind-eq-TURN.ensures c.jack_in-then-kind-eq-TURN-2.ensures c.jack_in-then-kind-eq-TURN-3.ensures ∙ from-turn _ _ _ _ c.if-kind-eq-TURN.true
+pub returns-in-2 : goal.returns-in-2
+returns-in-2 c = turn-of c.jack_in-in-2.ensures c.jack_in-in-2-2.ensures c.jack_in-in-2-3.ensures ∙ from-turn _ _ _ _ c.in-2.is
 
-pub returns-then-kind-eq-MARK : goal.returns-then-kind-eq-MARK
-returns-then-kind-eq-MARK c = from-mark _ _ _ _ c.if-kind-eq-MARK.true
+pub returns-in-3 : goal.returns-in-3
+returns-in-3 c = from-mark _ _ _ _ c.in-3.is
 
-pub returns-then-kind-eq-END : goal.returns-then-kind-eq-END
-returns-then-kind-eq-END c = from_end _ _ _ _ c.if-kind-eq-END.true
+pub returns-in-4 : goal.returns-in-4
+returns-in-4 c = from_end _ _ _ _ c.in-4.is
 
-pub returns-then-kind-eq-SEAT : goal.returns-then-kind-eq-SEAT
-returns-then-kind-eq-SEAT c = ap Seat c.jack_in-then-kind-eq-SEAT.ensures ∙ from-seat _ _ _ _ c.if-kind-eq-SEAT.true
+pub returns-in-6 : goal.returns-in-6
+returns-in-6 c = ap Seat c.jack_in-in-6.ensures ∙ from-seat _ _ _ _ c.in-6.is
 
-pub returns : goal.returns
-returns c =
-    from-none _ _ _ _ c.if-kind-eq-SWAP.false c.if-kind-eq-TURN.false c.if-kind-eq-MARK.false c.if-kind-eq-END.false c.if-kind-eq-SEAT.false
+pub returns-in_default : goal.returns-in_default
+returns-in_default c =
+    let other = c.in_default.in_default-own.rest in
+    from-none _ _ _ _ (λ e. omega (arith, other, e)) (λ e. omega (arith, other, e)) (λ e. omega (arith, other, e)) (λ e. omega (arith, other, e)) (λ e. omega (arith, other, e))
