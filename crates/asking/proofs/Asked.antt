@@ -1,5 +1,5 @@
--- What an accepted question asks: a plan that fits, and a mark that it has (`question-fits`). So an answer's plan is within the rules and has the mark
--- (`answer-ruled`, `answer-mark`), whichever kind of question it was.
+-- What an accepted question asks: a plan that fits, and a mark that it has (`question-fits`). So an answer's plan has the mark
+-- (`answer-mark`), whichever kind of question it was.
 -- Assumes nothing.
 use mathlib.Core.Path.{◌≡◌, refl, sym, ap, subst, ◌∙◌}
 use mathlib.Core.Bool.{Bool, true, false, cond, true≢false}
@@ -14,8 +14,7 @@ use Rattle.listing.specs.Rank.{rank}
 use Rattle.listing.specs.Limits.{most_ports, most_legs}
 use Rattle.listing.proofs.Numbers.{either, below?}
 use Rattle.promise.specs.Plan.{Leg, marks}
-use Rattle.words.specs.Told.{accepted, refused, nowhere, then}
-use Rattle.words.specs.Meaning.{outcome_told}
+use Rattle.words.specs.Told.{accepted, refused, nowhere}
 use Rattle.text_keys.specs.Parts.{begins}
 use Rattle.pattern_check.specs.Calls.{check_of}
 use Rattle.pattern_check.proofs.Accepted.{accepted-pattern}
@@ -23,7 +22,7 @@ use Rattle.patterns.specs.Calls.{rank_of}
 use Rattle.patterns.proofs.Accepted.{rank-fits}
 use Rattle.plan_lines.specs.Field.{field_in}
 use Rattle.plan_rules.specs.Planned.{Planned, Fits, device}
-use Rattle.plan_rules.specs.Places.{placed, held_of}
+use Rattle.plan_rules.specs.Places.{placed}
 use Rattle.plan_rules.specs.Rules.{legs_of, plan_ruled}
 use Rattle.plan_rules.proofs.Marks.{count-within}
 use Rattle.plans.specs.Calls.{read_plan_of}
@@ -31,9 +30,9 @@ use Rattle.plans.proofs.Plans.{accepted-fits}
 use Rattle.text_entries.specs.Entries.{one_line, entries_of}
 use Rattle.asking.specs.Questions.{pattern_key, mark_key, Asked, of_pattern, entries_asked, pattern_asked, question_of}
 use Rattle.asking.specs.Questions.{mark_field, of_mark, mark_of, marked_asked, mark_asked, whole_plan, whole_asked}
-use Rattle.asking.specs.Answers.{mark_in, QuestionIs}
+use Rattle.asking.specs.Answers.{plan_in, mark_in, QuestionAsks}
 use Rattle.asking.specs.declared.Question.{Question}
-use Rattle.words.proofs.Told.{then-accepted, accepted-gives}
+use Rattle.words.proofs.Told.{then-accepted}
 use Rattle.plan_rules.proofs.Within.{held-ruled}
 use Rattle.asking.proofs.Ruled.{held-legs}
 
@@ -65,6 +64,16 @@ one-leg n r low high below = record {
   };
   mark = omega arith;
 }
+
+-- and so the places that hold it are within the rules, if the rank is a pattern's
+pub from-pattern-ruled : (p : List ℕ) (r : ℕ) → accepted r ≡ rank_of most_ports p → plan_ruled device (placed most_legs (of_pattern (length p) r).plan) ≡ true
+unfolding rank_of
+from-pattern-ruled p r e =
+    let z = then-accepted (check_of most_ports p) (λ ok. accepted (rank (length p) p)) r (sym e) in
+    let ok : accepted tt ≡ check_of most_ports p = sym z.taken in
+    let P = accepted-pattern most_ports p ok in
+    let q : r ≡ rank (length p) p = cc z.on in
+    held-ruled (of_pattern (length p) r).plan (one-leg (length p) r P.low P.high (omega (arith, rank-fits most_ports p ok, q))).fits
 
 entries-ask : (t : List ℕ) (a : Asked) → entries_asked t ≡ accepted a → Asks a
 unfolding entries_asked rank_of
@@ -125,24 +134,13 @@ question-fits t a e = by (begins pattern_key t) (begins mark_key t) e
 
 -- ---- its answer
 
-module _ (t : List ℕ) (q : Question) (Q : QuestionIs (question_of t) q) (ok : accepted tt ≡ outcome_told q.judged) where
-  asked : (a : Asked) × (question_of t ≡ accepted a)
-  asked = accepted-gives (question_of t) (λ a. tt) tt (ok ∙ Q.judged)
+module _ (t : List ℕ) (q : Question) (Q : QuestionAsks (question_of t) q) where
+  asks : Asks Q.asked
+  asks = question-fits t Q.asked Q.is
 
-  asks : Asks asked.0
-  asks = question-fits t asked.0 asked.1
-
-  in-places : q.plan ≡ placed most_legs asked.0.plan
-  in-places = Q.plan ∙ ap (λ told. held_of most_legs (then told (λ a. accepted a.plan))) asked.1
-
-  -- its plan is within the rules
-  pub answer-ruled : plan_ruled device q.plan ≡ true
-  answer-ruled = ap (plan_ruled device) in-places ∙ held-ruled asked.0.plan asks.fits
-
-  -- and has its mark
-  pub answer-mark : q.mark < marks (legs_of q.plan)
+  -- its plan has its mark
+  pub answer-mark : mark_in q < marks (legs_of (plan_in q))
   answer-mark =
-      let m : q.mark ≡ asked.0.mark = Q.mark ∙ ap mark_in asked.1 in
-      let l : marks (legs_of q.plan) ≡ marks asked.0.plan.legs =
-      ap (λ p. marks (legs_of p)) in-places ∙ ap marks (held-legs asked.0.plan asks.fits) in
-      omega (arith, asks.mark)
+      let l : marks (legs_of (plan_in q)) ≡ marks Q.asked.plan.legs =
+      ap (λ p. marks (legs_of p)) Q.plan ∙ ap marks (held-legs Q.asked.plan asks.fits) in
+      omega (arith, asks.mark, Q.mark)

@@ -1,7 +1,7 @@
 -- What a text that is a plan, or begins with the line of a mark, is concluded to ask.
 -- Assumes nothing.
 use mathlib.Core.Path.{◌≡◌, refl, ap, ◌∙◌}
-use mathlib.Core.Bool.{true, false}
+use mathlib.Core.Bool.{true}
 use mathlib.Core.List.{List}
 use Prim.Native.Nat.{ℕ, ◌≤◌, ◌<◌}
 use native.Mathlib.Omega.{arith}
@@ -11,18 +11,18 @@ use Rattle.listing.specs.Limits.{most_legs}
 use Rattle.promise.specs.Plan.{marks}
 use Rattle.words.specs.Told.{Spot, accepted, refused, nowhere}
 use Rattle.words.specs.declared.Signed.{Signed}
-use Rattle.words.specs.declared.Outcome.TheVariants.{Accepted}
 use Rattle.plan_lines.specs.Field.{Got, field_in}
-use Rattle.plan_rules.specs.Planned.{Planned}
+use Rattle.plan_rules.specs.Planned.{Planned, device}
 use Rattle.plan_rules.specs.Places.{held_of}
-use Rattle.plan_rules.specs.Rules.{legs_of}
+use Rattle.plan_rules.specs.Rules.{legs_of, plan_ruled}
 use Rattle.plan_rules.specs.declared.Plan.{Plan}
 use Rattle.plans.specs.Calls.{read_plan_of}
 use Rattle.plans.proofs.Read.{read-plan-is, read_fits, read-places}
-use Rattle.asking.specs.Questions.{mark_field, mark_of, marked_asked, mark_asked, whole_plan, whole_asked}
-use Rattle.asking.specs.Answers.{QuestionIs}
+use Rattle.asking.specs.Questions.{mark_field, of_mark, mark_of, marked_asked, mark_asked, whole_plan, whole_asked}
+use Rattle.asking.specs.Answers.{QuestionAsks}
 use Rattle.words.proofs.Told.{refused-on}
 use Rattle.asking.proofs.Ruled.{judged, held-marks}
+use Rattle.asking.specs.declared.Question.TheVariants.{Whole, Mark}
 
 -- ---- a plan that was refused
 
@@ -46,17 +46,23 @@ module _ (t : List ℕ) (plan : Plan) (ok : accepted tt ≡ judged (read_plan_of
   its-marks = ap (λ q. marks (take q.legs (legs_of q))) (read-places t plan ok e) ∙ held-marks is-plan.0 (read_fits t ok)
 
   -- all of it is asked for
-  pub whole-read : QuestionIs (whole_asked t) (record { judged = Accepted; plan = plan; whole = true; mark = 0 })
+  pub whole-read : (r : plan_ruled device plan ≡ true) → QuestionAsks (whole_asked t) (Whole (record { plan = plan; ruled = r }))
   unfolding whole_asked
-  whole-read = rw is-plan.1 (record { judged = refl; plan = read-places t plan ok e; whole = refl; mark = refl })
+  whole-read r = record { asked = whole_plan is-plan.0; is = rw is-plan.1; plan = read-places t plan ok e; whole = refl; mark = refl }
 
   -- a mark that it has
-  pub mark-read : (k : ℕ) → k < marks (take plan.legs (legs_of plan))
-      → QuestionIs (marked_asked k t) (record { judged = Accepted; plan = plan; whole = false; mark = k })
+  pub mark-read : (k : ℕ) (r : plan_ruled device plan ≡ true) → k < marks (take plan.legs (legs_of plan))
+      → QuestionAsks (marked_asked k t) (Mark (record { plan = plan; ruled = r }) k)
   unfolding marked_asked
-  mark-read k h =
+  mark-read k r h =
       let below : k < marks is-plan.0.legs = omega (arith, its-marks) in
-      rw (is-plan.1, lt-ltb k (marks is-plan.0.legs) below) (record { judged = refl; plan = read-places t plan ok e; whole = refl; mark = refl })
+      record {
+        asked = of_mark k is-plan.0;
+        is = rw (is-plan.1, lt-ltb k (marks is-plan.0.legs) below);
+        plan = read-places t plan ok e;
+        whole = refl;
+        mark = refl;
+      }
 
   -- a mark that it does not have
   pub no-such-mark : (k : ℕ) → marks (take plan.legs (legs_of plan)) ≤ k → refused 6 nowhere ≡ marked_asked k t

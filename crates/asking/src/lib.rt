@@ -9,25 +9,22 @@ ghost use Rattle.asking.specs.Answers.{QuestionIs};
 
 use crate::patterned::ask_pattern;
 use crate::planned::{ask_mark, ask_whole};
-use plan_rules::Plan;
+use plan_rules::ruled::RuledPlan;
 use text_keys::has_key;
-use words::Outcome;
+use words::Refusal;
 
 // The length of the key `pattern=`.
 const PATTERN_KEY: usize = 8;
 
-// A text judged, and what it asks: the plan, and whether all of it is asked for or one mark, by its number. A pattern is the first mark of a plan that starts
-// there. All zeros if it was refused.
+// What a text asks: all of a plan, or one mark of it, by its number. A pattern is the first mark of a plan that starts there.
 #[derive(Clone, Copy)]
-pub struct Question {
-    pub judged: Outcome,
-    pub plan: Plan,
-    pub whole: bool,
-    pub mark: u64,
+pub enum Question {
+    Whole(RuledPlan),
+    Mark(RuledPlan, u64),
 }
 
 // The question that a text asks: its first key says of which kind it is.
-pub fn ask(text: &[u8]) -> Question
+pub fn ask(text: &[u8]) -> Result<Question, Refusal>
     ensures { QuestionIs (question_of text.now) result }
 {
     if has_key(text, b"pattern=") {

@@ -1,41 +1,26 @@
 // The cases of the paper's 'To run'.
 use crate::says;
-use crate::says::Told;
 use campaign::Campaign;
 use pattern_check::checking::check;
 use patterns::counting::count;
-use words::{Numbered, Outcome};
+use words::Refusal;
 
-fn checked(p: &[u8]) -> Told {
-    match check(p) {
-        Outcome::Accepted => says::accepted(),
-        Outcome::Refused(f) => says::refused(f),
-    }
+fn planned(text: &[u8]) -> Result<(), Refusal> {
+    Campaign::begin(text).judged
 }
 
-fn planned(text: &[u8]) -> Told {
-    let begun = Campaign::begin(text);
-    let judged = begun.judged;
-    match judged {
-        Outcome::Accepted => says::accepted(),
-        Outcome::Refused(f) => says::refused(f),
-    }
-}
-
-fn numbered(ports: u8) -> Told {
-    match count(ports) {
-        Numbered::Is(_) => says::accepted(),
-        Numbered::Refused(f) => says::refused(f),
-    }
+fn numbered(ports: u8) -> Result<(), Refusal> {
+    count(ports)?;
+    Ok(())
 }
 
 fn patterns_tried(rt: &impl Print) {
-    says::answered(rt, b"pattern 1,1", checked(&[1, 1]), 5, 1);
-    says::answered(rt, b"pattern 2,2", checked(&[2, 2]), 4, 2);
-    says::answered(rt, b"pattern 3,1", checked(&[3, 1]), 3, 1);
+    says::answered(rt, b"pattern 1,1", check(&[1, 1]), 5, 1);
+    says::answered(rt, b"pattern 2,2", check(&[2, 2]), 4, 2);
+    says::answered(rt, b"pattern 3,1", check(&[3, 1]), 3, 1);
 }
 
-// A plan's text, beside what is expected of it.
+// A plan's text, beside the number and the place that the paper expects of it.
 fn plan_tried(rt: &impl Print, what: &[u8], text: &[u8], number: u8, place: u8) {
     says::answered(rt, what, planned(text), number, place);
 }

@@ -1,11 +1,10 @@
 // The paper's example: its orders are printed, read back line by line and carried out on a panel; at each mark the panel has the pattern of the line's rank.
 use crate::says;
-use line_reader::answers::ReadLine;
 use line_reader::order_lines::read_line;
 use panel::lines::carry;
 use patterns::ranking::rank;
 use printing::{Filled, fill, rehearse};
-use words::{Line, Numbered, Outcome};
+use words::Line;
 
 // A mark: the rank of what stands on the panel beside the line's.
 fn met(rt: &impl Print, panel: &[u8], number: u64, wanted: u64) -> bool {
@@ -15,24 +14,17 @@ fn met(rt: &impl Print, panel: &[u8], number: u64, wanted: u64) -> bool {
     says::number(rt, wanted);
     says::text(rt, b" meets rank ");
     match rank(panel) {
-        Numbered::Is(k) => {
+        Ok(k) => {
             says::number(rt, k);
             k == wanted
         }
-        Numbered::Refused(_) => false,
-    }
-}
-
-fn carried(panel: &mut [u8], line: Line) -> bool {
-    match carry(panel, line) {
-        Outcome::Accepted => true,
-        Outcome::Refused(_) => false,
+        Err(_) => false,
     }
 }
 
 // A line obeyed.
 fn obey(rt: &impl Print, panel: &mut [u8], line: Line) {
-    let good = carried(panel, line);
+    let good = carry(panel, line).is_ok();
     match line {
         Line::Movement(_) => {
             says::text(rt, b"example: an order leaves ");
@@ -54,11 +46,11 @@ fn obey(rt: &impl Print, panel: &mut [u8], line: Line) {
 // The line at a place, and the place after it.
 fn read_one(rt: &impl Print, text: &[u8], place: usize, panel: &mut [u8]) -> usize {
     match read_line(text, place) {
-        ReadLine::Read(line, after) => {
+        Ok((line, after)) => {
             obey(rt, panel, line);
             after
         }
-        ReadLine::Refused(_) => {
+        Err(_) => {
             says::text(rt, b"example: no line");
             says::end(rt, false);
             place
@@ -79,21 +71,17 @@ const BUFFER: usize = 4096;
 // All lines, on a panel.
 fn read_all(rt: &impl Print, text: &[u8], panel: &mut [u8]) {
     let mut place: usize = 0;
-    let mut lines: u8 = 0;
-    while lines < LINES {
+    for _ in 0..LINES {
         place = read_one(rt, text, place, panel);
-        lines += 1;
     }
     says::counted(rt, b"example: bytes read", place as u64, text.len() as u64);
 }
 
 pub fn printed_and_read(rt: &impl Print) {
     let rehearsed = rehearse(b"ports=4\nlegs=2\nstart=0\nrun=2\nstart=8\nrun=-1\n");
-    let rehearsal = rehearsed.rehearsal;
     let mut buf = [0u8; BUFFER];
-    let printed = fill(rehearsal, &mut buf);
-    let filled = printed.filled;
-    match filled {
+    let printed = fill(rehearsed.rehearsal, &mut buf);
+    match printed.filled {
         Filled::Ended(n) => {
             says::counted(rt, b"example: bytes printed", n as u64, BYTES);
             let mut panel = [2u8, 3, 4, 1];
@@ -103,6 +91,6 @@ pub fn printed_and_read(rt: &impl Print) {
             says::text(rt, b"example: printed without its end");
             says::end(rt, false);
         }
-        Filled::Refused(f) => says::answered(rt, b"example: printed", says::refused(f), 0, 0),
+        Filled::Refused(f) => says::answered(rt, b"example: printed", Err(f), 0, 0),
     }
 }

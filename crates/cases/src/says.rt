@@ -2,29 +2,6 @@
 use words::Refusal;
 use words::refusals::{place_number, reason_number};
 
-// What a call told: 0 at 0 where it was accepted, else the number and the place of the refusal.
-#[derive(Clone, Copy)]
-pub struct Told {
-    pub number: u8,
-    pub place: u8,
-}
-
-pub fn accepted() -> Told {
-    Told {
-        number: 0,
-        place: 0,
-    }
-}
-
-pub fn refused(f: Refusal) -> Told {
-    let reason = f.reason;
-    let place = f.place;
-    Told {
-        number: reason_number(reason),
-        place: place_number(place),
-    }
-}
-
 pub fn text(rt: &impl Print, bytes: &[u8]) {
     let _ = rt.write_all(bytes);
 }
@@ -48,34 +25,35 @@ fn port(rt: &impl Print, v: u8) {
 
 // The ports of a pattern, one after the other.
 pub fn pattern(rt: &impl Print, p: &[u8]) {
-    let mut j: usize = 0;
-    while j < p.len() {
-        port(rt, p[j]);
-        j += 1;
+    for v in p {
+        port(rt, *v);
     }
 }
 
-// What a call told, beside what was expected.
+// What a call told, beside what was expected: 0 at 0 where it was accepted, else the number and the place of the refusal.
 pub fn answered(
     rt: &impl Print,
     what: &[u8],
-    found: Told,
+    found: Result<(), Refusal>,
     number_expected: u8,
     place_expected: u8,
 ) {
     text(rt, what);
-    if found.number == 0 {
-        text(rt, b": accepted");
-    } else {
-        text(rt, b": refused ");
-        number(rt, found.number as u64);
-        text(rt, b" at ");
-        number(rt, found.place as u64);
+    match found {
+        Ok(()) => {
+            text(rt, b": accepted");
+            end(rt, number_expected == 0 && place_expected == 0);
+        }
+        Err(f) => {
+            let reason = reason_number(f.reason);
+            let place = place_number(f.place);
+            text(rt, b": refused ");
+            number(rt, reason as u64);
+            text(rt, b" at ");
+            number(rt, place as u64);
+            end(rt, reason == number_expected && place == place_expected);
+        }
     }
-    end(
-        rt,
-        found.number == number_expected && found.place == place_expected,
-    );
 }
 
 // A number found, beside the one expected.

@@ -9,10 +9,7 @@ const SPOTS: usize = 65536;
 
 // The entry at a place of a pattern of up to 6 ports; 0 beyond it.
 fn entry(p: &[u8], j: usize) -> usize {
-    if j < p.len() {
-        return (p[j] % 8) as usize;
-    }
-    0
+    if j < p.len() { (p[j] % 8) as usize } else { 0 }
 }
 
 // A number below 32,768 that tells the permutations of up to 6 ports apart: by five entries, from which a sixth follows.
@@ -24,45 +21,36 @@ fn spot(p: &[u8]) -> usize {
         + entry(p, 4) % 8
 }
 
-// Whether a spot was not seen before; it is from now on.
+// Whether a spot was not seen before; it is from now on. (Two returns: it is set where it was not.)
 fn fresh(seen: &mut [u8], at: usize) -> bool {
-    if at < seen.len() {
-        if seen[at] == 0 {
-            seen[at] = 1;
-            return true;
-        }
+    if at < seen.len() && seen[at] == 0 {
+        seen[at] = 1;
+        return true;
     }
     false
 }
 
 // One more where something is so.
 fn added(n: u64, so: bool) -> u64 {
-    if so {
-        if n < LARGEST {
-            return n + 1;
-        }
-    }
-    n
+    if so && n < LARGEST { n + 1 } else { n }
 }
 
 // One step round the circuit.
 fn step(p: &mut [u8], back: bool) {
     if back {
-        previous(p);
+        let _ = previous(p);
     } else {
-        next(p);
+        let _ = next(p);
     }
 }
 
 // How many different patterns come in so many steps.
 fn different(p: &mut [u8], back: bool, steps: u64, seen: &mut [u8]) -> u64 {
     let mut found: u64 = 0;
-    let mut done: u64 = 0;
-    while done < steps {
+    for _ in 0..steps {
         let new = fresh(seen, spot(p));
         found = added(found, new);
         step(p, back);
-        done += 1;
     }
     found
 }
@@ -86,8 +74,8 @@ fn walk(rt: &impl Print, what: &[u8], p: &mut [u8], first: &[u8], back: bool, pa
 
 // Both ways, with two patterns of as many ports to work on.
 pub fn circuit(rt: &impl Print, p: &mut [u8], first: &mut [u8], patterns: u64) {
-    unrank(0, first);
-    unrank(0, p);
+    let _ = unrank(0, first);
+    let _ = unrank(0, p);
     walk(rt, b" ports forward: ", p, first, false, patterns);
     walk(rt, b" ports backward: ", p, first, true, patterns);
 }

@@ -2,14 +2,14 @@
 // 3, in lines that the command's wrapper reads (commands/way.sh). Standard error gets one line, and only where something cannot be read or written.
 #![tactic(auto)]
 
-ghost use Rattle.std.specs.Prelude.{◌≡◌, ◌+◌, ◌≤◌, length, take};
+ghost use Rattle.std.specs.Prelude.{◌≡◌, ◌+◌, ◌≤◌, length, take, IfOk};
 
 use line_refusal::refusal_text;
-use std::fs;
 use std::fs::{File, OpenOptions};
 use std::io::{ErrorKind, Read, Write};
 use std::os::unix::fs::PermissionsExt;
 use std::rt::{Stderr, Stdin, Stdout};
+use std::{fs, io};
 use words::refusals::{earlier_number, place_number, reason_number};
 use words::{Place, Reason, Refusal};
 
@@ -25,28 +25,22 @@ pub struct Streams {
     told: Option<File>,
 }
 
-// What was read: so many bytes, unless reading failed.
+// Something could not be written, and the command has been told.
 #[derive(Clone, Copy)]
-pub struct Input {
-    pub failed: bool,
-    pub len: usize,
-}
+pub struct Unwritten;
 
 // Whether the descriptor on which a program tells is open for writing: its link's mode says how it was opened.
 fn is_told(rt: &HostRuntime) -> bool {
-    match fs::symlink_metadata(rt, TOLD) {
-        Ok(link) => link.permissions().mode() & 0o200 != 0,
-        Err(_) => false,
-    }
+    fs::symlink_metadata(rt, TOLD).is_ok_and(|link| link.permissions().mode() & 0o200 != 0)
 }
 
 // That descriptor opened once more, under a number that no standard stream has, even one that is closed.
 fn open_told(rt: &HostRuntime) -> Option<File> {
-    if is_told(rt) {
-        let told = OpenOptions::new().append(true).open(rt, TOLD).ok()?;
-        return told.try_clone().ok();
+    if !is_told(rt) {
+        return None;
     }
-    None
+    let told = OpenOptions::new().append(true).open(rt, TOLD).ok()?;
+    told.try_clone().ok()
 }
 
 // What the program of this runtime reads and writes.
@@ -59,7 +53,8 @@ pub fn open_streams(rt: &HostRuntime) -> Streams {
     }
 }
 
-// Standard input into a buffer, until either is at its end or reading fails. How many bytes it put at the front.
+// Standard input into a buffer, until either is at its end or reading fails. How many bytes it put at the front. (A turn goes
+// on by as many bytes as were read.)
 fn read_rest(streams: &mut Streams, text: &mut [u8]) -> usize
     ensures fits { result ≤ length text.new }
     ensures front { result ≡ length (take result text.new) }
@@ -67,56 +62,47 @@ fn read_rest(streams: &mut Streams, text: &mut [u8]) -> usize
     let mut done: usize = 0;
     while done < text.len() {
         match streams.input.read(&mut text[done..]) {
-            Err(_) => {
-                return done;
-            }
-            Ok(n) => {
-                if n == 0 {
-                    return done;
-                }
-                done += n;
-            }
+            Err(_) | Ok(0) => return done,
+            Ok(n) => done += n,
         }
     }
     done
 }
 
-// Standard input into the front of a buffer, until either is at its end.
-pub fn read_input(streams: &mut Streams, text: &mut [u8]) -> Input
-    ensures fits { result.len ≤ length text.new }
-    ensures front { result.len ≡ length (take result.len text.new) }
+// Standard input into the front of a buffer, until either is at its end: how many bytes it put there.
+pub fn read_input(streams: &mut Streams, text: &mut [u8]) -> io::Result<usize>
+    ensures fits { IfOk result (λ len. len ≤ length text.new) }
+    ensures front { IfOk result (λ len. len ≡ length (take len text.new)) }
 {
-    match streams.input.read(text) {
-        Err(_) => Input {
-            failed: true,
-            len: 0,
-        },
-        Ok(first) => {
-            let rest = read_rest(streams, &mut text[first..]);
-            Input {
-                failed: false,
-                len: first + rest,
-            }
-        }
+    let first = streams.input.read(text)?;
+    let rest = read_rest(streams, &mut text[first..]);
+    Ok(first + rest)
+}
+
+// A program's input, read into a buffer and answered; where it cannot be read, that is the outcome.
+pub fn answer_input<F: FnOnce(&mut Streams, &[u8])>(
+    rt: &HostRuntime,
+    text: &mut [u8],
+    name: &[u8],
+    what: &[u8],
+    answer: F,
+)
+    requires { F.IsAlwaysCallable answer }
+{
+    let mut streams = open_streams(rt);
+    match read_input(&mut streams, text) {
+        Ok(n) => answer(&mut streams, &text[..n]),
+        Err(_) => unreadable(&mut streams, name, what),
     }
 }
 
-// Standard input read once, into a buffer from a place on. No bytes where it is at its end.
-pub fn read_more(streams: &mut Streams, text: &mut [u8], from: usize) -> Input
+// Standard input read once, into a buffer from a place on: how many bytes, none where it is at its end.
+pub fn read_more(streams: &mut Streams, text: &mut [u8], from: usize) -> io::Result<usize>
     requires { from ≤ length text.old }
-    ensures fits { from + result.len ≤ length text.old }
+    ensures fits { IfOk result (λ len. from + len ≤ length text.old) }
     ensures keeps { take from text.new ≡ take from text.old }
 {
-    match streams.input.read(&mut text[from..]) {
-        Err(_) => Input {
-            failed: true,
-            len: 0,
-        },
-        Ok(n) => Input {
-            failed: false,
-            len: n,
-        },
-    }
+    streams.input.read(&mut text[from..])
 }
 
 // Bytes told to the command. Where nobody listens they are lost, and nothing else changes.
@@ -158,14 +144,12 @@ fn unwritable(streams: &mut Streams, name: &[u8], why: ErrorKind) {
 }
 
 // Bytes written to standard output; where they cannot be, that is the outcome.
-pub fn written(streams: &mut Streams, name: &[u8], bytes: &[u8]) -> bool {
-    match streams.output.write_all(bytes) {
-        Ok(()) => true,
-        Err(why) => {
-            unwritable(streams, name, why.kind());
-            false
-        }
+pub fn written(streams: &mut Streams, name: &[u8], bytes: &[u8]) -> Result<(), Unwritten> {
+    if let Err(why) = streams.output.write_all(bytes) {
+        unwritable(streams, name, why.kind());
+        return Err(Unwritten);
     }
+    Ok(())
 }
 
 // The outcome where all was written.
@@ -186,30 +170,28 @@ fn tell_refused(streams: &mut Streams, reason: Reason, place: u64) {
 
 // The same at its own place, with its second number.
 pub fn tell_refusal(streams: &mut Streams, f: Refusal) {
-    let reason = f.reason;
-    let place = f.place;
+    let Refusal { reason, place } = f;
     tell_refused(streams, reason, place_number(place) as u64);
     tell_earlier(streams, place);
 }
 
-// A refusal's two lines, with its place, on standard output and as the outcome; whether they could be written.
-pub fn refused_at(streams: &mut Streams, name: &[u8], reason: Reason, place: u64) -> bool {
+// A refusal's two lines, with its place, on standard output and as the outcome.
+pub fn refused_at(
+    streams: &mut Streams,
+    name: &[u8],
+    reason: Reason,
+    place: u64,
+) -> Result<(), Unwritten> {
     let text = refusal_text(reason, place);
-    let bytes = text.bytes;
-    let n = text.len;
-    let lines = &bytes[..n];
-    if written(streams, name, lines) {
-        tell_refused(streams, reason, place);
-        return true;
-    }
-    false
+    written(streams, name, &text.bytes[..text.len])?;
+    tell_refused(streams, reason, place);
+    Ok(())
 }
 
 // A refusal at its own place, with its second number.
 pub fn refused(streams: &mut Streams, name: &[u8], f: Refusal) {
-    let reason = f.reason;
-    let place = f.place;
-    if refused_at(streams, name, reason, place_number(place) as u64) {
+    let Refusal { reason, place } = f;
+    if refused_at(streams, name, reason, place_number(place) as u64).is_ok() {
         tell_earlier(streams, place);
     }
 }

@@ -1,22 +1,21 @@
 // Why a pattern has its rank, written: a line for each of its levels, and then the rank.
 #![tactic(auto)]
 
-ghost use Rattle.std.specs.Prelude.{◌≡◌, ◌++◌, ◌+◌, ◌≤◌, length, take};
-ghost use Rattle.listing.specs.Limits.{most_ports};
-ghost use Rattle.listing_course.specs.InPlace.{WithInverse};
+ghost use Rattle.std.specs.Prelude.{◌≡◌, ◌++◌, ◌+◌, ◌≤◌, length};
 ghost use Rattle.line_putting.specs.Putting.{Puts};
+ghost use Rattle.pattern_inverse.specs.Judged.{pattern_of};
 ghost use Rattle.pattern_levels.specs.Levels.{letter_of};
 ghost use Rattle.explaining.specs.Text.{by_text, read_text, level_text, why_text, most_explained};
 ghost use Rattle.explaining_levels.specs.Levels.{level_is};
 
 use line_putting::{put_number, put_text};
+use pattern_inverse::types::Taken;
 use pattern_levels::peeling::peel;
 use pattern_levels::telling::block_of;
 use pattern_levels::types::Came;
 use pattern_ranks::ranking::placed_by;
 use pattern_ranks::types::Level;
 use plan_facts::put_line;
-use words::limits::LONGEST;
 
 // The fewest ports of a level that is told.
 const LEAST_LEVEL: u8 = 3;
@@ -32,15 +31,16 @@ fn put_by(c: Came, at: usize, buf: &mut [u8]) -> usize
     }
 }
 
-// How the shorter list is read.
+// How the shorter list is read. (Which way is data of the level.)
 fn put_read(forward: bool, at: usize, buf: &mut [u8]) -> usize
     requires { at + length (read_text forward) ≤ length buf.old }
     ensures { Puts at (read_text forward) buf.old result buf.new }
 {
     if forward {
-        return put_text(b" read=forward", at, buf);
+        put_text(b" read=forward", at, buf)
+    } else {
+        put_text(b" read=backward", at, buf)
     }
-    put_text(b" read=backward", at, buf)
 }
 
 // The line of a level.
@@ -56,30 +56,23 @@ fn put_level(n: u8, c: Came, l: Level, from: usize, buf: &mut [u8]) -> usize
     put_text(b"\n", end, buf)
 }
 
-// Why the pattern of so many ports that the copy begins with has its rank, at the front of a buffer; how many bytes that takes. The copy and the inverse are
-// used up.
-pub fn put_why(
-    copy: &mut [u8; LONGEST],
-    inverse: &mut [u8; LONGEST],
-    ports: u8,
-    buf: &mut [u8],
-) -> usize
-    requires { (length copy.old ≡ most_ports) × (length inverse.old ≡ most_ports) × (2 ≤ ports) × (ports ≤ most_ports)
-        × WithInverse ports copy.old inverse.old × (most_explained ≤ length buf.old) }
-    ensures puts { Puts 0 (why_text (take ports copy.old)) buf.old result buf.new }
+// Why a pattern has its rank, at the front of a buffer; how many bytes that takes. The pattern is taken apart.
+pub fn put_why(t: &mut Taken, buf: &mut [u8]) -> usize
+    requires { (2 ≤ t.old.ports) × (most_explained ≤ length buf.old) }
+    ensures puts { Puts 0 (why_text (pattern_of t.old)) buf.old result buf.new }
     ensures fits { result ≤ most_explained }
 {
-    let mut n = ports;
     let mut forward = true;
     let mut rank: u64 = 0;
     let mut at: usize = 0;
-    while LEAST_LEVEL <= n {
-        let c = peel(copy, inverse, n);
+    // No `for`: a level leaves one port less or two.
+    while LEAST_LEVEL <= t.ports {
+        let n = t.ports;
+        let c = peel(t);
         let l = placed_by(forward, n, c);
         at = put_level(n, c, l, at, buf);
         rank += l.passed;
         forward = l.forward;
-        n = l.ports;
     }
     put_line(b"rank=", rank, at, buf)
 }

@@ -14,19 +14,17 @@ ghost use Rattle.explaining_line.specs.Answers.{ExplainedIs};
 use explaining_levels::put_why;
 use explaining_words::put_refused;
 use pattern_check::checking::check_inverse;
-use text_entries::{bad_entry, entries_in, one_line};
-use text_keys::Found;
-use words::limits::LONGEST;
-use words::refusals::{earlier_number, nowhere, place_number, reason_number};
-use words::{Outcome, Reason, Refusal};
+use text_entries::{Entries, bad_entry, entries_in, one_line};
+use words::refusals::{earlier_number, nowhere, place_number};
+use words::{Reason, Refusal};
 
 // No text is longer.
 pub const EXPLAINED_BYTES: usize = 1104;
 
-// A text judged, and how many bytes of the buffer it takes to say so.
+// A text judged, and how many bytes of the buffer it takes to say so. No Result: a text is written where it is refused too.
 #[derive(Clone, Copy)]
 pub struct Explained {
-    pub judged: Outcome,
+    pub judged: Result<(), Refusal>,
     pub len: usize,
 }
 
@@ -36,10 +34,9 @@ fn refuse(f: Refusal, x: u64, buf: &mut [u8]) -> Explained
     ensures { ExplainedIs (refusal_of f) (refused_text (number_of f.reason) (spot_number (spot_of f.place)) (earlier_number (spot_of f.place)) x)
         buf.old result buf.new }
 {
-    let reason = f.reason;
-    let place = f.place;
+    let Refusal { reason, place } = f;
     Explained {
-        judged: Outcome::Refused(f),
+        judged: Err(f),
         len: put_refused(reason, place_number(place), earlier_number(place), x, buf),
     }
 }
@@ -62,10 +59,10 @@ fn port_at(p: &[u8], j: u8) -> u8
 fn named_in(p: &[u8], reason: Reason, place: u8) -> u64
     ensures { result ≡ named_in p.now (number_of reason) place }
 {
-    if reason_number(reason) == 4 {
-        return port_at(p, place) as u64;
+    match reason {
+        Reason::Repeated => port_at(p, place) as u64,
+        _ => p.len() as u64,
     }
-    p.len() as u64
 }
 
 // Entries as a pattern.
@@ -73,18 +70,14 @@ fn explain_pattern(p: &[u8], buf: &mut [u8]) -> Explained
     requires { most_explained ≤ length buf.old }
     ensures { ExplainedIs (check_of most_ports p.now) (pattern_text p.now) buf.old result buf.new }
 {
-    let mut copy = [0u8; LONGEST];
-    let mut inverse = [0u8; LONGEST];
-    match check_inverse(p, &mut copy, &mut inverse) {
-        Outcome::Refused(f) => {
-            let reason = f.reason;
-            let place = f.place;
-            let x = named_in(p, reason, place_number(place));
+    match check_inverse(p) {
+        Err(f) => {
+            let x = named_in(p, f.reason, place_number(f.place));
             refuse(f, x, buf)
         }
-        Outcome::Accepted => Explained {
-            judged: Outcome::Accepted,
-            len: put_why(&mut copy, &mut inverse, p.len() as u8, buf),
+        Ok(mut taken) => Explained {
+            judged: Ok(()),
+            len: put_why(&mut taken, buf),
         },
     }
 }
@@ -94,13 +87,12 @@ fn explain_line(t: &[u8], buf: &mut [u8]) -> Explained
     requires { most_explained ≤ length buf.old }
     ensures { ExplainedIs (then (entries_of t.now) (check_of most_ports)) (line_text t.now) buf.old result buf.new }
 {
-    let entries = entries_in(t);
-    let judged = entries.judged;
-    let bytes = entries.bytes;
-    let n = entries.len;
-    match judged {
-        Outcome::Refused(f) => refuse(f, bad_entry(t), buf),
-        Outcome::Accepted => explain_pattern(&bytes[..n], buf),
+    match entries_in(t) {
+        Err(f) => refuse(f, bad_entry(t), buf),
+        Ok(entries) => {
+            let Entries { len, bytes } = entries;
+            explain_pattern(&bytes[..len], buf)
+        }
     }
 }
 
@@ -110,7 +102,7 @@ pub fn explain(t: &[u8], buf: &mut [u8]) -> Explained
     ensures { ExplainedIs (explain_of t.now) (explained t.now) buf.old result buf.new }
 {
     match one_line(t) {
-        Found::Nowhere => refuse(nowhere(Reason::Ended), 0, buf),
-        Found::At(k) => explain_line(&t[..k], buf),
+        None => refuse(nowhere(Reason::Ended), 0, buf),
+        Some(k) => explain_line(&t[..k], buf),
     }
 }

@@ -11,7 +11,6 @@ ghost use Rattle.explaining.specs.Text.{said, jack_text, wrong_text, refused_tex
 use line_putting::{put_number, put_spelled, put_text};
 use line_refusal::refusal_text;
 use words::Reason;
-use words::refusals::reason_number;
 
 // A number between two texts, put into a buffer from a place on; the place after it. So do the next ones.
 fn put_said(front: &[u8], n: u64, rest: &[u8], from: usize, buf: &mut [u8]) -> usize
@@ -53,28 +52,28 @@ fn put_own(j: u64, from: usize, buf: &mut [u8]) -> usize
 }
 
 // The jack and the rule at fault, in words.
-fn put_wrong(number: u8, place: u64, earlier: u64, x: u64, from: usize, buf: &mut [u8]) -> usize
-    requires { from + length (wrong_text number place earlier x) ≤ length buf.old }
-    ensures { Puts from (wrong_text number place earlier x) buf.old result buf.new }
+fn put_wrong(reason: Reason, place: u64, earlier: u64, x: u64, from: usize, buf: &mut [u8]) -> usize
+    requires { from + length (wrong_text (number_of reason) place earlier x) ≤ length buf.old }
+    ensures { Puts from (wrong_text (number_of reason) place earlier x) buf.old result buf.new }
 {
-    match number {
-        11 => put_text(b"the newline is missing or not last", from, buf),
-        8 => put_said(
+    match reason {
+        Reason::Ended => put_text(b"the newline is missing or not last", from, buf),
+        Reason::Number => put_said(
             b"jack ",
             x,
             b": not a plain decimal number of at most 64 bits",
             from,
             buf,
         ),
-        1 => put_text(b"a pattern has 2 to 20 entries", from, buf),
-        3 => put_jack(
+        Reason::Ports => put_text(b"a pattern has 2 to 20 entries", from, buf),
+        Reason::Outside => put_jack(
             place,
             b": its entry is none of the ports 1 to ",
             x,
             from,
             buf,
         ),
-        4 => put_repeated(place, x, earlier, from, buf),
+        Reason::Repeated => put_repeated(place, x, earlier, from, buf),
         _ => put_own(place, from, buf),
     }
 }
@@ -85,8 +84,7 @@ pub fn put_refused(reason: Reason, place: u8, earlier: u8, x: u64, buf: &mut [u8
     ensures puts { Puts 0 (refused_text (number_of reason) place earlier x) buf.old result buf.new }
     ensures fits { result ≤ most_explained }
 {
-    let number = reason_number(reason);
     let words = put_spelled(refusal_text(reason, place as u64), 0, buf);
-    let end = put_wrong(number, place as u64, earlier as u64, x, words, buf);
+    let end = put_wrong(reason, place as u64, earlier as u64, x, words, buf);
     put_text(b"\n", end, buf)
 }

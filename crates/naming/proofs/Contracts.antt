@@ -7,7 +7,7 @@ use Rattle.line_format.specs.Calls.{over}
 use Rattle.naming.specs.Text.{named_text}
 use Rattle.naming.proofs.named_text.Reads as named-text
 
--- named_text(plan: Plan, buf: &mut [u8]) -> usize
+-- named_text(ruled: RuledPlan, buf: &mut [u8]) -> usize
 pub named-text-says : Says named-text.Learnt
-    (λ κs (plan, (buf, _)) r (_, (left, _)). (r ≡ length (named_text plan)) × (left.now ≡ over (named_text plan) buf.now))
+    (λ κs (ruled, (buf, _)) r (_, (left, _)). (r ≡ length (named_text ruled.plan)) × (left.now ≡ over (named_text ruled.plan) buf.now))
 named-text-says κs a r e h = h

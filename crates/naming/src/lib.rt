@@ -1,10 +1,8 @@
 // What a plan names, as text: how many ranks, of how many there are, and the gaps that it leaves, in lines of key=value.
 #![tactic(auto)]
 
-ghost use Rattle.std.specs.Prelude.{◌≡◌, true, ◌+◌, ◌*◌, ◌≤◌, length};
+ghost use Rattle.std.specs.Prelude.{◌≡◌, ◌+◌, ◌*◌, ◌≤◌, length};
 ghost use Rattle.line_format.specs.Calls.{over};
-ghost use Rattle.plan_rules.specs.Planned.{device};
-ghost use Rattle.plan_rules.specs.Rules.{plan_ruled};
 ghost use Rattle.naming.specs.Text.{counts_text, gap_text, gaps_text, named_text, most_named};
 ghost use Rattle.line_putting.specs.Putting.{Puts};
 ghost use Rattle.naming.specs.Arcs.{arcs_in};
@@ -13,7 +11,7 @@ use line_putting::put_spelled;
 use pattern_steps::counts::count_of;
 use plan_arcs::gaps::{GAP_NUMBERS, count_named, put_gaps};
 use plan_facts::{pair_line, put_line};
-use plan_rules::Plan;
+use plan_rules::ruled::RuledPlan;
 
 // No text is longer.
 pub const NAMED_BYTES: usize = 718;
@@ -32,12 +30,8 @@ fn put_gap_lines(gaps: &[u64], many: u64, from: usize, buf: &mut [u8]) -> usize
     ensures { Puts from (gaps_text (arcs_in many gaps.now)) buf.old result buf.new }
 {
     let mut at = from;
-    let mut k: usize = 0;
-    let mut left = many;
-    while 0 < left {
-        at = put_gap(gaps[k], gaps[k + 1], at, buf);
-        k += 2;
-        left -= 1;
+    for k in 0..many as usize {
+        at = put_gap(gaps[2 * k], gaps[2 * k + 1], at, buf);
     }
     at
 }
@@ -53,15 +47,15 @@ fn put_counts(named: u64, of: u64, gaps: u64, buf: &mut [u8]) -> usize
 }
 
 // What a plan names, written at the front of a buffer; how many bytes that takes.
-pub fn named_text(plan: Plan, buf: &mut [u8]) -> usize
-    requires { (plan_ruled device plan ≡ true) × (most_named ≤ length buf.old) }
-    ensures answer { result ≡ length (named_text plan) }
-    ensures bytes { buf.new ≡ over (named_text plan) buf.old }
+pub fn named_text(ruled: RuledPlan, buf: &mut [u8]) -> usize
+    requires { most_named ≤ length buf.old }
+    ensures answer { result ≡ length (named_text ruled.plan) }
+    ensures bytes { buf.new ≡ over (named_text ruled.plan) buf.old }
 {
-    let tally = count_named(plan);
-    let of = count_of(plan.ports);
+    let tally = count_named(ruled);
+    let of = count_of(ruled.plan.ports);
     let mut gaps = [0u64; GAP_NUMBERS];
-    put_gaps(plan, &mut gaps);
+    put_gaps(ruled, &mut gaps);
     let at = put_counts(tally.named, of, tally.gaps, buf);
     put_gap_lines(&gaps, tally.gaps, at, buf)
 }

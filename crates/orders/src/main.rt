@@ -2,19 +2,16 @@
 // and its place. It tells the command how many marks are to come and, buffer by buffer, how many have gone by.
 #![tactic(auto)]
 
-ghost use Rattle.std.specs.Prelude.{◌≡◌, true, ◌<◌};
+ghost use Rattle.std.specs.Prelude.{◌<◌, ⊤, MatchOption};
 ghost use Rattle.printing.specs.Rehearsals.{state_of};
 ghost use Rattle.printing.specs.Progress.{to_go};
 ghost use Rattle.printing.proofs.StandsFor.{Rehearsing};
 
 use campaign::Campaign;
-use campaign_onward::{Where, status};
-use console::{
-    Streams, open_streams, printed, read_input, refused, tell_number, unreadable, written,
-};
+use campaign_onward::status;
+use console::{Streams, Unwritten, answer_input, printed, refused, tell_number, written};
 use printing::rehearsals::state_of;
-use printing::{Filled, Rehearsal, fill, rehearse};
-use words::Outcome;
+use printing::{Filled, Printed, Rehearsal, Rehearsed, fill, rehearse};
 
 // How many bytes of standard input are judged as a plan. The longest plan has fewer.
 const JUDGED: usize = 1024;
@@ -22,71 +19,51 @@ const JUDGED: usize = 1024;
 // How many bytes of lines are written at a time.
 const BUFFER: usize = 65536;
 
-// A rehearsal after one buffer of its lines, and whether more are to come.
-#[derive(Clone, Copy)]
-struct Went {
-    rehearsal: Rehearsal,
-    more: bool,
-}
-
-// Bytes written to standard output.
-fn put(streams: &mut Streams, bytes: &[u8]) -> bool {
+// Bytes written to standard output, under this program's name.
+fn put(streams: &mut Streams, bytes: &[u8]) -> Result<(), Unwritten> {
     written(streams, b"orders", bytes)
 }
 
 // The last of them, and with them all is printed.
 fn put_last(streams: &mut Streams, bytes: &[u8]) {
-    if put(streams, bytes) {
+    if put(streams, bytes).is_ok() {
         printed(streams);
     }
 }
 
-// How many marks are to come.
+// How many marks are to come. A function for this number and the next would have to be given the field, and be no shorter.
 fn tell_marks(streams: &mut Streams, r: Rehearsal) {
-    match status(Campaign { state: state_of(r) }) {
-        Where::At(w) => tell_number(streams, b"marks=", w.marks),
-        Where::Refused(_) => (),
+    if let Ok(w) = status(Campaign { state: state_of(r) }) {
+        tell_number(streams, b"marks=", w.marks);
     }
 }
 
 // How many marks have gone by: the number of the next one.
 fn tell_done(streams: &mut Streams, r: Rehearsal) {
-    match status(Campaign { state: state_of(r) }) {
-        Where::At(w) => tell_number(streams, b"done=", w.number),
-        Where::Refused(_) => (),
+    if let Ok(w) = status(Campaign { state: state_of(r) }) {
+        tell_number(streams, b"done=", w.number);
     }
 }
 
-// One buffer of lines.
-fn print_some(streams: &mut Streams, r: Rehearsal) -> Went
+// One buffer of lines; the rehearsal after them, where more are to come.
+fn print_some(streams: &mut Streams, r: Rehearsal) -> Option<Rehearsal>
     requires { Rehearsing (state_of r) }
-    ensures runs { Rehearsing (state_of result.rehearsal) }
-    ensures less { result.more ≡ true → to_go (state_of result.rehearsal) < to_go (state_of r) }
+    ensures { MatchOption result ⊤ (λ next. Rehearsing (state_of next) × (to_go (state_of next) < to_go (state_of r))) }
 {
     let mut buf = [0u8; BUFFER];
-    let part = fill(r, &mut buf);
-    let next = part.rehearsal;
-    let filled = part.filled;
+    let Printed { rehearsal, filled } = fill(r, &mut buf);
+    let mut more = None;
     match filled {
         Filled::Lines(n) => {
-            let more = put(streams, &buf[..n]);
-            Went {
-                rehearsal: next,
-                more: more,
+            if put(streams, &buf[..n]).is_ok() {
+                more = Some(rehearsal);
             }
         }
-        Filled::Ended(n) => {
-            put_last(streams, &buf[..n]);
-            Went {
-                rehearsal: next,
-                more: false,
-            }
-        }
-        Filled::Refused(_) => Went {
-            rehearsal: next,
-            more: false,
-        },
+        Filled::Ended(n) => put_last(streams, &buf[..n]),
+        Filled::Refused(_) => (),
     }
+    tell_done(streams, rehearsal);
+    more
 }
 
 // Every order, buffer by buffer: each leaves less to go.
@@ -94,38 +71,23 @@ fn print_all(streams: &mut Streams, r: Rehearsal)
     requires { Rehearsing (state_of r) }
 {
     let mut rehearsal = r;
-    let mut more = true;
-    while more {
-        let went = print_some(streams, rehearsal);
-        let next = went.rehearsal;
+    while let Some(next) = print_some(streams, rehearsal) {
         rehearsal = next;
-        more = went.more;
-        tell_done(streams, next);
     }
 }
 
 // A text judged, and its orders or its refusal printed.
 fn print_plan(streams: &mut Streams, text: &[u8]) {
-    let rehearsed = rehearse(text);
-    let rehearsal = rehearsed.rehearsal;
-    let judged = rehearsed.judged;
+    let Rehearsed { judged, rehearsal } = rehearse(text);
     match judged {
-        Outcome::Accepted => {
+        Ok(()) => {
             tell_marks(streams, rehearsal);
             print_all(streams, rehearsal);
         }
-        Outcome::Refused(f) => refused(streams, b"orders", f),
+        Err(f) => refused(streams, b"orders", f),
     }
 }
 
 fn main(rt: HostRuntime) {
-    let mut streams = open_streams(&rt);
-    let mut text = [0u8; JUDGED];
-    let input = read_input(&mut streams, &mut text);
-    if input.failed {
-        unreadable(&mut streams, b"orders", b"plan");
-        return;
-    }
-    let n = input.len;
-    print_plan(&mut streams, &text[..n]);
+    answer_input(&rt, &mut [0u8; JUDGED], b"orders", b"plan", print_plan);
 }

@@ -16,7 +16,7 @@ use Rattle.listing.specs.Limits.{most_ports, most_legs}
 use Rattle.listing.proofs.Ranks.{at-derangement}
 use Rattle.words.specs.declared.Line.TheVariants.{Mark}
 use Rattle.words.proofs.Padded.{padded-length, padded-front, padded-beyond}
-use Rattle.promise.specs.Plan.{Leg, leg_at, rank_at, marks, number, leg_of, step_of}
+use Rattle.promise.specs.Plan.{Leg, leg_at, rank_at, marks, leg_of, step_of}
 use Rattle.promise.specs.Campaign as model
 use Rattle.promise.specs.Campaign.{request, mark, todo}
 use Rattle.promise.specs.Fitness as promise

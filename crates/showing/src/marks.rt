@@ -1,13 +1,12 @@
 // Where a mark of a plan stands: its leg and its step there, and the rehearsal that is about to hand it out.
-ghost use Rattle.std.specs.Prelude.{◌≡◌, true, ◌<◌};
+ghost use Rattle.std.specs.Prelude.{◌≡◌, ◌<◌};
 ghost use Rattle.promise.specs.Plan.{marks};
-ghost use Rattle.plan_rules.specs.Planned.{device};
-ghost use Rattle.plan_rules.specs.Rules.{legs_of, plan_ruled};
+ghost use Rattle.plan_rules.specs.Rules.{legs_of};
 ghost use Rattle.showing.specs.Places.{PlaceIs, rehearsal_at};
 
 use campaign_way::along::rank_along;
 use pattern_course::unranking::put_pattern;
-use plan_rules::{Plan, leg_at};
+use plan_rules::ruled::RuledPlan;
 use printing::Rehearsal;
 use words::limits::LONGEST;
 
@@ -19,20 +18,17 @@ pub struct MarkPlace {
 }
 
 // The leg and the step of the mark with number k.
-pub fn place_of(plan: Plan, k: u64) -> MarkPlace
-    requires { (plan_ruled device plan ≡ true) × (k < marks (legs_of plan)) }
-    ensures { PlaceIs (legs_of plan) k result }
+pub fn place_of(ruled: RuledPlan, k: u64) -> MarkPlace
+    requires { k < marks (legs_of ruled.plan) }
+    ensures { PlaceIs (legs_of ruled.plan) k result }
 {
     let mut leg: u8 = 0;
     let mut step = k;
+    // No `for` over the legs: that the mark is in one of them is what the caller requires, and nothing is left to answer after the last.
     loop {
-        let l = leg_at(plan, leg);
-        let run = l.run;
+        let run = ruled.leg_at(leg).run;
         if step <= run {
-            return MarkPlace {
-                leg: leg,
-                step: step,
-            };
+            return MarkPlace { leg, step };
         }
         step = step - run - 1;
         leg += 1;
@@ -40,22 +36,20 @@ pub fn place_of(plan: Plan, k: u64) -> MarkPlace
 }
 
 // The rehearsal that stands at mark k: its pattern is on the panel, and it comes next.
-pub fn rehearsal_at(plan: Plan, k: u64) -> Rehearsal
-    requires { (plan_ruled device plan ≡ true) × (k < marks (legs_of plan)) }
-    ensures { result ≡ rehearsal_at plan k }
+pub fn rehearsal_at(ruled: RuledPlan, k: u64) -> Rehearsal
+    requires { k < marks (legs_of ruled.plan) }
+    ensures { result ≡ rehearsal_at ruled.plan k }
 {
-    let place = place_of(plan, k);
-    let l = leg_at(plan, place.leg);
-    let n = plan.ports;
-    let rank = rank_along(n, l.start, l.back, place.step);
-    let end = n as usize;
+    let MarkPlace { leg, step } = place_of(ruled, k);
+    let l = ruled.leg_at(leg);
+    let rank = rank_along(ruled.plan.ports, l.start, l.back, step);
     let mut panel = [0u8; LONGEST];
-    put_pattern(rank, &mut panel[..end]);
+    put_pattern(rank, &mut panel[..ruled.plan.ports as usize]);
     Rehearsal {
-        plan: plan,
-        panel: panel,
-        leg: place.leg,
-        step: place.step,
+        plan: ruled.plan,
+        panel,
+        leg,
+        step,
         ended: false,
     }
 }

@@ -11,14 +11,14 @@ use console::{
     Streams, open_streams, printed, read_more, refused_at, tell, tell_earlier, tell_number,
     unreadable, written,
 };
-use text_keys::{Found, find};
+use text_keys::find;
 use translating_line::LINE_BYTES;
 use translating_stream::{Stop, translate_held};
 use words::refusals::{nowhere, place_number};
 use words::{Reason, Refusal};
 
-// A proved loop has to end, and nothing says that the input does. So each loop counts its turns down, from a number that no run uses up: the lines of so many buffers
-// of 4,096 bytes still have numbers of 64 bits.
+// A proved loop has to end, and nothing says that the input does. So each loop has as many turns as no run uses up: the lines of so many buffers of 4,096 bytes still
+// have numbers of 64 bits.
 const TURNS: u64 = 4503599627370494;
 
 // How many bytes of the input are held at most, and how many are written at a time.
@@ -27,20 +27,13 @@ const HELD_BYTES: usize = 4096;
 const PUT_BYTES: usize = 65536;
 
 // What goes on from turn to turn beside the bytes that are held at the front of the buffer: how many they are, whether whole lines are still among them, the ports so
-// far, 0 for none, and the number of the next line.
+// far, 0 for none, and the number of the next line. (A flag: what is held goes on either way.)
 #[derive(Clone, Copy)]
 struct Held {
     len: usize,
     full: bool,
     ports: u8,
     line: u64,
-}
-
-// What a turn came to.
-#[derive(Clone, Copy)]
-enum Turn {
-    On(Held),
-    Over,
 }
 
 // How a line that is too long ends.
@@ -54,33 +47,19 @@ enum Rest {
 
 // ---- a refusal
 
-// So many bytes, and no more than a good line has.
-fn at_most_line(n: usize) -> usize
-    ensures { (result ≤ n) × (result ≤ most_line) }
-{
-    if LINE_BYTES < n {
-        return LINE_BYTES;
-    }
-    n
-}
-
 // How many bytes are told of the line that a text begins with: none after its newline, and no more than a good line has.
 fn shown(left: &[u8]) -> usize
     ensures fits { result ≤ length left.now }
     ensures front { result ≡ length (take result left.now) }
     ensures shown { result ≤ most_line }
 {
-    match find(left, b'\n') {
-        Found::At(k) => at_most_line(k),
-        Found::Nowhere => at_most_line(left.len()),
-    }
+    find(left, b'\n').unwrap_or(left.len()).min(LINE_BYTES)
 }
 
 // A refused line, with which the text that is left begins: its refusal printed, and all that is known of it told to the command.
 fn refuse(streams: &mut Streams, f: Refusal, ports: u8, line: u64, left: &[u8]) {
-    let reason = f.reason;
-    let place = f.place;
-    if refused_at(streams, b"translate", reason, line) {
+    let Refusal { reason, place } = f;
+    if refused_at(streams, b"translate", reason, line).is_ok() {
         tell_number(streams, b"jack=", place_number(place) as u64);
         tell_earlier(streams, place);
         tell_number(streams, b"ports=", ports as u64);
@@ -95,17 +74,13 @@ fn refuse(streams: &mut Streams, f: Refusal, ports: u8, line: u64, left: &[u8]) 
 fn read_on(streams: &mut Streams, text: &mut [u8]) -> Rest
     requires { most_line < length text.old }
 {
-    let input = read_more(streams, text, LINE_BYTES);
-    if input.failed {
-        return Rest::Failed;
-    }
-    if input.len == 0 {
-        return Rest::Ended;
-    }
-    let to = LINE_BYTES + input.len;
-    match find(&text[LINE_BYTES..to], b'\n') {
-        Found::At(_) => Rest::Newline,
-        Found::Nowhere => Rest::Endless,
+    match read_more(streams, text, LINE_BYTES) {
+        Err(_) => Rest::Failed,
+        Ok(0) => Rest::Ended,
+        Ok(n) => match find(&text[LINE_BYTES..LINE_BYTES + n], b'\n') {
+            Some(_) => Rest::Newline,
+            None => Rest::Endless,
+        },
     }
 }
 
@@ -113,21 +88,10 @@ fn read_on(streams: &mut Streams, text: &mut [u8]) -> Rest
 fn rest_of_line(streams: &mut Streams, text: &mut [u8]) -> Rest
     requires { most_line < length text.old }
 {
-    let mut turns = TURNS;
-    while 0 < turns {
+    for _ in 0..TURNS {
         match read_on(streams, text) {
-            Rest::Endless => {
-                turns -= 1;
-            }
-            Rest::Newline => {
-                return Rest::Newline;
-            }
-            Rest::Ended => {
-                return Rest::Ended;
-            }
-            Rest::Failed => {
-                return Rest::Failed;
-            }
+            Rest::Endless => (),
+            rest => return rest,
         }
     }
     Rest::Endless
@@ -164,11 +128,11 @@ fn refuse_long(streams: &mut Streams, text: &mut [u8], ports: u8, line: u64)
 
 // The input is at its end: all is printed, unless bytes without a newline are left.
 fn finish(streams: &mut Streams, left: &[u8], ports: u8, line: u64) {
-    if left.len() == 0 {
+    if left.is_empty() {
         printed(streams);
-        return;
+    } else {
+        refuse(streams, nowhere(Reason::Ended), ports, line, left);
     }
-    refuse(streams, nowhere(Reason::Ended), ports, line, left);
 }
 
 // ---- turn by turn
@@ -181,70 +145,85 @@ fn go_on(
     ports: u8,
     line: u64,
     stop: Stop,
-) -> Turn
+) -> Option<Held>
     requires { left ≤ length text.old }
     ensures { HoldsIs left ports line result }
 {
     match stop {
         Stop::Refused(f) => {
             refuse(streams, f, ports, line, &text[..left]);
-            Turn::Over
+            None
         }
-        Stop::Full => Turn::On(Held {
+        Stop::Full => Some(Held {
             len: left,
             full: true,
-            ports: ports,
-            line: line,
+            ports,
+            line,
         }),
         Stop::More => {
             if LINE_BYTES < left {
                 refuse_long(streams, text, ports, line);
-                return Turn::Over;
+                return None;
             }
-            Turn::On(Held {
+            Some(Held {
                 len: left,
                 full: false,
-                ports: ports,
-                line: line,
+                ports,
+                line,
             })
         }
     }
 }
 
 // The whole lines among the first n bytes of the buffer, translated and written.
-fn translate_more(streams: &mut Streams, text: &mut [u8], n: usize, ports: u8, line: u64) -> Turn
+fn translate_more(
+    streams: &mut Streams,
+    text: &mut [u8],
+    n: usize,
+    ports: u8,
+    line: u64,
+) -> Option<Held>
     requires { SoFar ports × (n ≤ length text.old) × (line + length text.old ≤ largest64) }
     ensures { TurnIs (length text.old) line result }
 {
     let mut out = [0u8; PUT_BYTES];
     let part = translate_held(text, n, ports, line, &mut out);
-    let len = part.len;
-    let stop = part.stop;
-    if written(streams, b"translate", &out[..len]) {
-        return go_on(streams, text, n - part.used, part.ports, part.line, stop);
-    }
-    Turn::Over
+    written(streams, b"translate", &out[..part.len]).ok()?;
+    go_on(
+        streams,
+        text,
+        n - part.used,
+        part.ports,
+        part.line,
+        part.stop,
+    )
 }
 
-// One turn: more bytes are read, unless whole lines are still held, and translated.
-fn take_turn(streams: &mut Streams, text: &mut [u8], held: Held) -> Turn
+// One turn: more bytes are read, unless whole lines are still held, and translated. What goes on, or nothing where it is over.
+fn take_turn(streams: &mut Streams, text: &mut [u8], held: Held) -> Option<Held>
     requires { SoFar held.ports × (held.len ≤ length text.old) × (held.line + length text.old ≤ largest64) }
     ensures { TurnIs (length text.old) held.line result }
 {
-    let from = held.len;
-    if held.full {
-        return translate_more(streams, text, from, held.ports, held.line);
+    let Held {
+        len,
+        full,
+        ports,
+        line,
+    } = held;
+    if full {
+        return translate_more(streams, text, len, ports, line);
     }
-    let input = read_more(streams, text, from);
-    if input.failed {
-        failed(streams);
-        return Turn::Over;
+    match read_more(streams, text, len) {
+        Err(_) => {
+            failed(streams);
+            None
+        }
+        Ok(0) => {
+            finish(streams, &text[..len], ports, line);
+            None
+        }
+        Ok(n) => translate_more(streams, text, len + n, ports, line),
     }
-    if input.len == 0 {
-        finish(streams, &text[..from], held.ports, held.line);
-        return Turn::Over;
-    }
-    translate_more(streams, text, from + input.len, held.ports, held.line)
 }
 
 fn main(rt: HostRuntime) {
@@ -256,16 +235,10 @@ fn main(rt: HostRuntime) {
         ports: 0,
         line: 1,
     };
-    let mut turns = TURNS;
-    while 0 < turns {
+    for turn in 0..TURNS {
         match take_turn(&mut streams, &mut text, held) {
-            Turn::On(next) => {
-                held = next;
-            }
-            Turn::Over => {
-                return;
-            }
+            Some(next) => held = next,
+            None => return,
         }
-        turns -= 1;
     }
 }

@@ -3,9 +3,9 @@
 use mathlib.Core.Path.{◌≡◌, refl, sym, ap, subst, ◌∙◌}
 use mathlib.Core.Bool.{Bool, true, false, cond}
 use mathlib.Core.Logic.{◌≢◌}
-use mathlib.Core.List.{List, [], ◌∷◌, ◌++◌, append-nil, map}
+use mathlib.Core.List.{List, [], ◌++◌, append-nil, map}
 use mathlib.Core.Option.{Option, none, some}
-use Prim.Native.Nat.{ℕ, ◌+◌, ◌≤◌, ◌<◌}
+use Prim.Native.Nat.{ℕ, ◌≤◌, ◌<◌}
 use native.Mathlib.Omega.{arith}
 use lib.Dec.{ltb}
 use lib.ListN.{length, take, drop, length-map, drop_of_length-le}
@@ -20,7 +20,7 @@ use Rattle.words.specs.Meaning.{outcome_told}
 use Rattle.words.proofs.Told.{not-both}
 use Rattle.text_numbers.specs.Decimal.{number_up_to}
 use Rattle.text_entries.specs.Entries.{entries_in, entry_byte, few_entries, entries_of}
-use Rattle.text_entries.specs.Pieces.{EntriesIs}
+use Rattle.text_entries.specs.Pieces.{EntriesAre}
 use Rattle.text_entries.proofs.Read.{given, given-long, given-front}
 use Rattle.text_entries.specs.declared.Entries.{Entries}
 use Rattle.line_format.specs.Calls.{over}
@@ -106,30 +106,26 @@ as-given n h t = by (entries_in largest64 t)
         (λ m. rw (lt-leb (length ns) most_ports m) (many-counted n (map entry_byte ns) (omega (arith, length-map ns entry_byte))))
         (λ m. rw (le-leb (length ns) most_ports m))
 
-module _ (t old : List ℕ) (high : length old ≤ most_ports) (r : Entries) (R : EntriesIs (entries_of t) r) where
+module _ (t old : List ℕ) (high : length old ≤ most_ports) where
   -- they are none
-  pub no-entries : (k : ℕ) (s : Spot) → refused k s ≡ outcome_told r.judged → Finds (in_entries (length old) t) old (refused 8 nowhere) old
-  no-entries k s e = rw (as-given (length old) high t) (by (entries_of t) (e ∙ R.judged))
-    where
-      by : (told : Told (List ℕ)) → refused k s ≡ found_told told → Finds (on_given (length old) told) old (refused 8 nowhere) old
-      by (accepted p) e = absurd (not-both e)
-      by (refused j q) e = (refl, refl)
+  pub no-entries : {k : ℕ} {s : Spot} → refused k s ≡ entries_of t → Finds (in_entries (length old) t) old (refused 8 nowhere) old
+  no-entries e = rw (as-given (length old) high t, ← e) (refl, refl)
 
-  module _ (ok : accepted tt ≡ outcome_told r.judged) where
+  module _ (r : Entries) (R : EntriesAre (entries_of t) r) where
     -- they are not as many as there are ports
     pub wrong-count : r.len ≢ length old → Finds (in_entries (length old) t) old (refused 8 nowhere) old
     unfolding counted
     wrong-count ne =
-        let g = given t r R ok in
-        rw (as-given (length old) high t, g.1, ne_eqb (length g.0) (length old) (λ e. ne (given-long t r R ok ∙ e))) (refl, refl)
+        let g = given t r R in
+        rw (as-given (length old) high t, g.1, ne_eqb (length g.0) (length old) (λ e. ne (given-long t r R ∙ e))) (refl, refl)
 
     -- they are: then they are put over all bytes that were there
     pub right-count : r.len ≡ length old → (left : List ℕ) → left ≡ over (take r.len r.bytes) old → Finds (in_entries (length old) t) old (accepted tt) left
     unfolding counted
     right-count e left f =
-        let g = given t r R ok in
-        let long : length g.0 ≡ length old = sym (given-long t r R ok) ∙ e in
+        let g = given t r R in
+        let long : length g.0 ≡ length old = sym (given-long t r R) ∙ e in
         let few : length old ≤ length g.0 = omega arith in
         let none_left : drop (length g.0) old ≡ [] = drop_of_length-le old few in
-        let all : left ≡ g.0 = f ∙ ap (λ p. over p old) (given-front t r R ok) ∙ ap (λ u. g.0 ++ u) none_left ∙ append-nil g.0 in
+        let all : left ≡ g.0 = f ∙ ap (λ p. over p old) (given-front t r R) ∙ ap (λ u. g.0 ++ u) none_left ∙ append-nil g.0 in
         rw (as-given (length old) high t, g.1, eq-eqb (length g.0) (length old) long) (refl, all)

@@ -11,12 +11,11 @@ ghost use Rattle.translating_find.specs.Pieces.{in_order, in_entries, pattern_of
 use dictionary::numbering::numbered;
 use line_putting::put_text;
 use patterns::ranking::unrank;
-use text_entries::entries_in;
+use text_entries::{Entries, entries_in};
 use text_keys::has_key;
-use text_numbers::Read;
 use text_numbers::reading::read_number;
 use words::refusals::nowhere;
-use words::{Outcome, Reason};
+use words::{Reason, Refusal};
 
 // The lengths of the keys `rank=`, `number=` and `pattern=`.
 const RANK_KEY: usize = 5;
@@ -25,54 +24,47 @@ const NUMBER_KEY: usize = 7;
 
 const PATTERN_KEY: usize = 8;
 
-// By its rank.
-fn by_rank(t: &[u8], p: &mut [u8]) -> Outcome
+// By its rank. Only the order differs from that of dictionary numbers: a function over both would have the order in its contract, and be longer than either.
+fn by_rank(t: &[u8], p: &mut [u8]) -> Result<(), Refusal>
     requires { (2 ≤ length p.old) × (length p.old ≤ most_ports) }
     ensures told { outcome_told result ≡ found_told (in_order (at (length p.old)) (length p.old) t.now) }
     ensures bytes { p.new ≡ found_bytes (in_order (at (length p.old)) (length p.old) t.now) p.old }
 {
-    match read_number(t) {
-        Read::Bad => Outcome::Refused(nowhere(Reason::Number)),
-        Read::Number(r) => unrank(r, p),
-    }
+    let r = read_number(t).ok_or(nowhere(Reason::Number))?;
+    unrank(r, p)
 }
 
 // By its dictionary number.
-fn by_number(t: &[u8], p: &mut [u8]) -> Outcome
+fn by_number(t: &[u8], p: &mut [u8]) -> Result<(), Refusal>
     requires { (2 ≤ length p.old) × (length p.old ≤ most_ports) }
     ensures told { outcome_told result ≡ found_told (in_order (in_dictionary (length p.old)) (length p.old) t.now) }
     ensures bytes { p.new ≡ found_bytes (in_order (in_dictionary (length p.old)) (length p.old) t.now) p.old }
 {
-    match read_number(t) {
-        Read::Bad => Outcome::Refused(nowhere(Reason::Number)),
-        Read::Number(k) => numbered(k, p),
-    }
+    let k = read_number(t).ok_or(nowhere(Reason::Number))?;
+    numbered(k, p)
 }
 
 // By its entries: any others than so many numbers are refused alike.
-fn by_entries(t: &[u8], p: &mut [u8]) -> Outcome
+fn by_entries(t: &[u8], p: &mut [u8]) -> Result<(), Refusal>
     requires { length p.old ≤ most_ports }
     ensures told { outcome_told result ≡ found_told (in_entries (length p.old) t.now) }
     ensures bytes { p.new ≡ found_bytes (in_entries (length p.old) t.now) p.old }
 {
-    let entries = entries_in(t);
-    let judged = entries.judged;
-    let bytes = entries.bytes;
-    let n = entries.len;
-    match judged {
-        Outcome::Refused(_) => Outcome::Refused(nowhere(Reason::Number)),
-        Outcome::Accepted => {
-            if n == p.len() {
-                put_text(&bytes[..n], 0, p);
-                return Outcome::Accepted;
+    match entries_in(t) {
+        Err(_) => Err(nowhere(Reason::Number)),
+        Ok(entries) => {
+            let Entries { len, bytes } = entries;
+            if len != p.len() {
+                return Err(nowhere(Reason::Number));
             }
-            Outcome::Refused(nowhere(Reason::Number))
+            put_text(&bytes[..len], 0, p);
+            Ok(())
         }
     }
 }
 
 // The pattern that a line names: its key says by what.
-pub fn find_pattern(t: &[u8], p: &mut [u8]) -> Outcome
+pub fn find_pattern(t: &[u8], p: &mut [u8]) -> Result<(), Refusal>
     requires { (2 ≤ length p.old) × (length p.old ≤ most_ports) }
     ensures told { outcome_told result ≡ found_told (pattern_of (length p.old) t.now) }
     ensures bytes { p.new ≡ found_bytes (pattern_of (length p.old) t.now) p.old }
@@ -86,5 +78,5 @@ pub fn find_pattern(t: &[u8], p: &mut [u8]) -> Outcome
     if has_key(t, b"pattern=") {
         return by_entries(&t[PATTERN_KEY..], p);
     }
-    Outcome::Refused(nowhere(Reason::Key))
+    Err(nowhere(Reason::Key))
 }

@@ -1,6 +1,6 @@
 -- What is concluded of a line of ports, from the number that was read (`no-ports`, `few-ports`, `many-ports`, `ports-said`); it prints nothing (`ports-silent`).
 -- Assumes nothing.
-use mathlib.Core.Path.{◌≡◌, refl, sym, ◌∙◌}
+use mathlib.Core.Path.{◌≡◌, refl, sym}
 use mathlib.Core.Bool.{Bool, true, false, cond}
 use mathlib.Core.List.{List, []}
 use mathlib.Core.Option.{Option, none, some}

@@ -4,12 +4,13 @@ use Rattle.std.specs.Prelude.{ℕ, List, [], length}
 use Rattle.words.specs.Told.{Told, accepted, refused, then}
 use Rattle.words.specs.Meaning.{refusal_of}
 use Rattle.translating.specs.Lines.{Went as LineWent}
-use Rattle.translating_line.specs.declared.Translated.{Translated}
-use Rattle.translating_line.specs.declared.Translated.TheVariants.{Went, Refused}
+use Rattle.std.specs.declared.result.Result.{Result}
+use Rattle.std.specs.declared.result.Result.TheVariants.{Ok, Err}
+use Rattle.words.specs.declared.Refusal.{Refusal}
 
-abbrev pub line_told : Translated → Told (ℕ × ℕ)
-line_told (Went ports len) = accepted (ports, len)
-line_told (Refused f) = refusal_of f
+abbrev pub line_told : Result (ℕ × ℕ) Refusal → Told (ℕ × ℕ)
+line_told (Ok (ports, len)) = accepted (ports, len)
+line_told (Err f) = refusal_of f
 
 -- the same of what a line is
 abbrev pub went_told : Told LineWent → Told (ℕ × ℕ)

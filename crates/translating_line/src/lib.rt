@@ -9,15 +9,13 @@ ghost use Rattle.translating.specs.Lines.{SoFar, ports_of, line_of};
 ghost use Rattle.translating_line.specs.Pieces.{named_line_of};
 ghost use Rattle.translating_line.specs.Answers.{line_told, went_told, text_in};
 
-use line_writer::answers::Written;
 use text_keys::has_key;
-use text_numbers::Read;
 use text_numbers::reading::read_number;
 use translating_find::find_pattern;
 use translating_names::name_pattern;
 use words::limits::{FEWEST_PORTS, LONGEST, MOST_PORTS};
 use words::refusals::nowhere;
-use words::{Outcome, Reason, Refusal};
+use words::{Reason, Refusal};
 
 // No good line is longer, its newline not counted.
 pub const LINE_BYTES: usize = 58;
@@ -25,30 +23,19 @@ pub const LINE_BYTES: usize = 58;
 // The length of the key `ports=`.
 const PORTS_KEY: usize = 6;
 
-// What a line leaves and prints: the ports so far, 0 for none, and how many bytes its text has; or why it is refused.
-#[derive(Clone, Copy)]
-pub enum Translated {
-    Went(u8, usize),
-    Refused(Refusal),
-}
-
 // The names that a line asks for, of a pattern of as many ports as the first slice has bytes, which it is put into.
-fn name_in(t: &[u8], p: &mut [u8], out: &mut [u8]) -> Translated
+fn name_in(t: &[u8], p: &mut [u8], out: &mut [u8]) -> Result<(u8, usize), Refusal>
     requires { (2 ≤ length p.old) × (length p.old ≤ most_ports) × (most_names ≤ length out.old) }
     ensures told { line_told result ≡ went_told (named_line_of (length p.old) t.now) }
     ensures bytes { out.new ≡ over (text_in (named_line_of (length p.old) t.now)) out.old }
 {
-    match find_pattern(t, p) {
-        Outcome::Refused(f) => Translated::Refused(f),
-        Outcome::Accepted => match name_pattern(p, out) {
-            Written::Refused(f) => Translated::Refused(f),
-            Written::Bytes(len) => Translated::Went(p.len() as u8, len),
-        },
-    }
+    find_pattern(t, p)?;
+    let len = name_pattern(p, out)?;
+    Ok((p.len() as u8, len))
 }
 
 // The same with room for the pattern.
-fn name_line(t: &[u8], ports: u8, out: &mut [u8]) -> Translated
+fn name_line(t: &[u8], ports: u8, out: &mut [u8]) -> Result<(u8, usize), Refusal>
     requires { (2 ≤ ports) × (ports ≤ most_ports) × (most_names ≤ length out.old) }
     ensures told { line_told result ≡ went_told (named_line_of ports t.now) }
     ensures bytes { out.new ≡ over (text_in (named_line_of ports t.now)) out.old }
@@ -59,37 +46,30 @@ fn name_line(t: &[u8], ports: u8, out: &mut [u8]) -> Translated
 }
 
 // The ports that a line says. It prints nothing.
-fn ports_line(t: &[u8]) -> Translated
+fn ports_line(t: &[u8]) -> Result<(u8, usize), Refusal>
     ensures { line_told result ≡ went_told (ports_of t.now) }
 {
-    match read_number(t) {
-        Read::Bad => Translated::Refused(nowhere(Reason::Number)),
-        Read::Number(n) => {
-            if n < FEWEST_PORTS as u64 {
-                return Translated::Refused(nowhere(Reason::Ports));
-            }
-            if (MOST_PORTS as u64) < n {
-                return Translated::Refused(nowhere(Reason::Ports));
-            }
-            Translated::Went(n as u8, 0)
-        }
+    let n = read_number(t).ok_or(nowhere(Reason::Number))?;
+    if n < FEWEST_PORTS as u64 || (MOST_PORTS as u64) < n {
+        return Err(nowhere(Reason::Ports));
     }
+    Ok((n as u8, 0))
 }
 
 // A line without its newline, with the ports so far: its text at the front of a buffer.
-pub fn translate_line(t: &[u8], ports: u8, out: &mut [u8]) -> Translated
+pub fn translate_line(t: &[u8], ports: u8, out: &mut [u8]) -> Result<(u8, usize), Refusal>
     requires { SoFar ports × (most_names ≤ length out.old) }
     ensures told { line_told result ≡ went_told (line_of ports t.now) }
     ensures bytes { out.new ≡ over (text_in (line_of ports t.now)) out.old }
 {
     if LINE_BYTES < t.len() {
-        return Translated::Refused(nowhere(Reason::Number));
+        return Err(nowhere(Reason::Number));
     }
     if has_key(t, b"ports=") {
         return ports_line(&t[PORTS_KEY..]);
     }
     if ports == 0 {
-        return Translated::Refused(nowhere(Reason::Key));
+        return Err(nowhere(Reason::Key));
     }
     name_line(t, ports, out)
 }

@@ -11,24 +11,19 @@ ghost use Rattle.translating_names.specs.Pieces.{names_of, names_length, names_l
 
 use crate::writing::write_names;
 use dictionary::numbering::number;
-use line_writer::answers::Written;
 use patterns::ranking::rank;
-use words::Numbered;
+use words::Refusal;
 
 // No line of names is longer.
 pub const NAMES_BYTES: usize = 109;
 
 // The names of a pattern, as a line at the front of a buffer.
-pub fn name_pattern(p: &[u8], out: &mut [u8]) -> Written
+pub fn name_pattern(p: &[u8], out: &mut [u8]) -> Result<usize, Refusal>
     requires { most_names ≤ length out.old }
     ensures told { written_told result ≡ names_length (names_of p.now) }
     ensures bytes { out.new ≡ over (names_line (names_of p.now)) out.old }
 {
-    match rank(p) {
-        Numbered::Refused(f) => Written::Refused(f),
-        Numbered::Is(r) => match number(p) {
-            Numbered::Refused(f) => Written::Refused(f),
-            Numbered::Is(k) => Written::Bytes(write_names(r, k, p, out)),
-        },
-    }
+    let r = rank(p)?;
+    let k = number(p)?;
+    Ok(write_names(r, k, p, out))
 }

@@ -14,10 +14,8 @@ fn put_rest(p: &[u8], from: usize, buf: &mut [u8]) -> usize
     ensures { Puts from (rest_text p.now 1) buf.old result buf.new }
 {
     let mut at = from;
-    let mut k: usize = 1;
-    while k < p.len() {
+    for k in 1..p.len() {
         at = put_number(b",", p[k] as u64, at, buf);
-        k += 1;
     }
     at
 }

@@ -1,4 +1,3 @@
 pub mod Steps
 pub mod Taking
-pub mod Keeping
 pub mod Contracts

@@ -13,8 +13,8 @@ use Rattle.translating.specs.Whole.{Onward}
 use Rattle.translating_stream.specs.declared.Stop.{Stop}
 use Rattle.translating_stream.specs.declared.Stop.TheVariants.{More, Full, Refused}
 use Rattle.translating_stream.specs.declared.Part.{Part}
-use Rattle.translating_stream.specs.declared.Step.{Step}
-use Rattle.translating_stream.specs.declared.Step.TheVariants.{Went as Step-Went, More as Step-More, Full as Step-Full, Refused as Step-Refused}
+use Rattle.std.specs.declared.result.Result.{Result}
+use Rattle.std.specs.declared.result.Result.TheVariants.{Ok, Err}
 
 -- why no line more: of a text that is left, with the ports so far, and of so many bytes in a buffer
 abbrev pub StopIs : List ℕ → ℕ → ℕ → List ℕ → Stop → Type 0
@@ -50,8 +50,6 @@ pub record LineWent (t : List ℕ) (used n len : ℕ) (old left : List ℕ) (por
   pub fits : end ≤ length old
 
 -- what one line came to: a line that went, or why not, and then the buffer is as it was
-abbrev pub StepIs : List ℕ → ℕ → ℕ → ℕ → List ℕ → List ℕ → Step → Type 0
-StepIs t used n len old left (Step-Went ports next end) = LineWent t used n len old left ports next end
-StepIs t used n len old left Step-More = StopIs (drop used t) n len old More × (left ≡ old)
-StepIs t used n len old left Step-Full = StopIs (drop used t) n len old Full × (left ≡ old)
-StepIs t used n len old left (Step-Refused f) = StopIs (drop used t) n len old (Refused f) × (left ≡ old)
+abbrev pub StepIs : List ℕ → ℕ → ℕ → ℕ → List ℕ → List ℕ → Result (ℕ × ℕ × ℕ) Stop → Type 0
+StepIs t used n len old left (Ok (ports, next, end)) = LineWent t used n len old left ports next end
+StepIs t used n len old left (Err stop) = StopIs (drop used t) n len old stop × (left ≡ old)

@@ -7,13 +7,15 @@ ghost use Rattle.listing.specs.Limits.{largest64};
 ghost use Rattle.line_format.specs.Calls.{over};
 ghost use Rattle.translating.specs.Lines.{SoFar};
 ghost use Rattle.translating_stream.specs.Parts.{StepIs, PartIs};
+ghost use Rattle.translating_stream.specs.declared.Stop.TheVariants.{Refused};
 
-use text_keys::{Found, find};
-use translating_line::{Translated, translate_line};
+use text_keys::find;
+use translating_line::translate_line;
 use translating_names::NAMES_BYTES;
 use words::Refusal;
 
 // Why a part goes no further: what is left has no newline yet, the buffer may have no room for another line, or a line was refused.
+// (Three ways, so neither Option nor Result is plainer.)
 #[derive(Clone, Copy)]
 pub enum Stop {
     More,
@@ -32,33 +34,33 @@ pub struct Part {
     pub stop: Stop,
 }
 
-// What one line came to: the ports so far and the places after it, in the text and in the buffer; or why there was none.
-#[derive(Clone, Copy)]
-enum Step {
-    Went(u8, usize, usize),
-    More,
-    Full,
-    Refused(Refusal),
+impl From<Refusal> for Stop {
+    ghost from_gives = { λ f stop. stop ≡ Refused f };
+
+    fn from(f: Refusal) -> Stop {
+        Stop::Refused(f)
+    }
 }
 
-// The line of a text from a place on, its text put into a buffer from a place on.
-fn line_at(text: &[u8], used: usize, ports: u8, out: &mut [u8], len: usize) -> Step
+// The line of a text from a place on, its text put into a buffer from a place on: the ports so far and the places after it, in the text and in the buffer; or why there
+// was none.
+fn line_at(
+    text: &[u8],
+    used: usize,
+    ports: u8,
+    out: &mut [u8],
+    len: usize,
+) -> Result<(u8, usize, usize), Stop>
     requires { SoFar ports × (used ≤ length text.now) × (len ≤ length out.old) }
     ensures { StepIs text.now used ports len out.old out.new result }
 {
-    match find(&text[used..], b'\n') {
-        Found::Nowhere => Step::More,
-        Found::At(k) => {
-            if out.len() - len < NAMES_BYTES {
-                return Step::Full;
-            }
-            let to = used + k;
-            match translate_line(&text[used..to], ports, &mut out[len..]) {
-                Translated::Refused(f) => Step::Refused(f),
-                Translated::Went(n, many) => Step::Went(n, to + 1, len + many),
-            }
-        }
+    let k = find(&text[used..], b'\n').ok_or(Stop::More)?;
+    if out.len() - len < NAMES_BYTES {
+        return Err(Stop::Full);
     }
+    let to = used + k;
+    let (n, many) = translate_line(&text[used..to], ports, &mut out[len..])?;
+    Ok((n, to + 1, len + many))
 }
 
 // The whole lines of a part of a text, from a line on and with the ports so far: their texts at the front of a buffer.
@@ -70,39 +72,22 @@ pub fn translate_some(text: &[u8], ports: u8, line: u64, out: &mut [u8]) -> Part
     let mut row = line;
     let mut used: usize = 0;
     let mut len: usize = 0;
+    // No `for`: the text has where the next line begins.
     loop {
         match line_at(text, used, n, out, len) {
-            Step::Went(after, next, end) => {
+            Ok((after, next, end)) => {
                 n = after;
                 row += 1;
                 used = next;
                 len = end;
             }
-            Step::More => {
+            Err(stop) => {
                 return Part {
                     ports: n,
                     line: row,
-                    used: used,
-                    len: len,
-                    stop: Stop::More,
-                };
-            }
-            Step::Full => {
-                return Part {
-                    ports: n,
-                    line: row,
-                    used: used,
-                    len: len,
-                    stop: Stop::Full,
-                };
-            }
-            Step::Refused(f) => {
-                return Part {
-                    ports: n,
-                    line: row,
-                    used: used,
-                    len: len,
-                    stop: Stop::Refused(f),
+                    used,
+                    len,
+                    stop,
                 };
             }
         }
@@ -114,12 +99,7 @@ fn keep(text: &mut [u8], from: usize, to: usize)
     requires { (from ≤ to) × (to ≤ length text.old) }
     ensures { text.new ≡ over (drop from (take to text.old)) text.old }
 {
-    let n = to - from;
-    let mut i: usize = 0;
-    while i < n {
-        text[i] = text[from + i];
-        i += 1;
-    }
+    text.copy_within(from..to, 0);
 }
 
 // The whole lines among the first n bytes of a buffer, and what is left of those bytes moved to its front, where the next part goes on.
@@ -129,7 +109,6 @@ pub fn translate_held(text: &mut [u8], n: usize, ports: u8, line: u64, out: &mut
     ensures left { text.new ≡ over (drop result.used (take n text.old)) text.old }
 {
     let part = translate_some(&text[..n], ports, line, out);
-    let used = part.used;
-    keep(text, used, n);
+    keep(text, part.used, n);
     part
 }

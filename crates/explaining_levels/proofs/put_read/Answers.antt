@@ -14,10 +14,10 @@ pub returns-then-forward : goal.returns-then-forward
 unfolding quoted
 returns-then-forward c = puts-as (ap read_text (sym c.if-forward.true)) c.put_text.ensures
 
-pub put_text-requires-2 : goal.put_text-requires-2
+pub put_text-requires-else-forward : goal.put_text-requires-else-forward
 unfolding quoted
-put_text-requires-2 c = rw c.if-forward.false at c.requires
+put_text-requires-else-forward c = rw c.if-forward.false at c.requires
 
-pub returns : goal.returns
+pub returns-else-forward : goal.returns-else-forward
 unfolding quoted
-returns c = puts-as (ap read_text (sym c.if-forward.false)) c.put_text-2.ensures
+returns-else-forward c = puts-as (ap read_text (sym c.if-forward.false)) c.put_text-else-forward.ensures

@@ -10,13 +10,13 @@ use Rattle.explaining.proofs.Steps.{refusal_at, text-refused, text-accepted}
 use Rattle.explaining_line.proofs.Explains.{explained-as}
 use Rattle.explaining_line.proofs.explain.Goals as goal
 
-pub returns-in-Nowhere : goal.returns-in-Nowhere
-returns-in-Nowhere c =
-    let w = text-refused _ 11 nowhere (sym (ap (line_is _) c.in-Nowhere.is) ∙ c.one_line.ensures.line) in
+pub returns-in-None : goal.returns-in-None
+returns-in-None c =
+    let w = text-refused _ 11 nowhere (sym (ap (line_is _) c.in-None.is) ∙ c.one_line.ensures.line) in
     explained-as (ap refusal_of c.nowhere.ensures ∙ w.0)
     (ap (λ (f : Refusal). refusal_at (number_of f.reason) (spot_of f.place) 0) c.nowhere.ensures ∙ w.1) c.refuse.ensures
 
-pub returns-in-At : goal.returns-in-At
-returns-in-At c =
-    let w = text-accepted c.args.t.now (take c.in-At.k c.args.t.now) (sym (ap (line_is _) c.in-At.is) ∙ c.one_line.ensures.line) in
+pub returns-in-Some : goal.returns-in-Some
+returns-in-Some c =
+    let w = text-accepted c.args.t.now (take c.in-Some.k c.args.t.now) (sym (ap (line_is _) c.in-Some.is) ∙ c.one_line.ensures.line) in
     explained-as w.0 w.1 c.explain_line.ensures

@@ -5,7 +5,7 @@ use Rattle.words.specs.Meaning.{outcome_told}
 use Rattle.plans.proofs.Read.{read-ruled}
 use Rattle.named.proofs.print_plan.Goals as goal
 
-pub print_named-requires : goal.print_named-requires
-print_named-requires c =
-    let R = c.read_plan-read in
-    read-ruled _ R.result.plan (ap outcome_told (sym c.in-Accepted.is) ∙ R.ensures.judged) R.ensures.plan
+pub invariant_of-print_named : goal.invariant_of-print_named
+invariant_of-print_named c =
+    let R = c.read_plan-judged in
+    record { ruled = read-ruled _ R.result.plan (ap outcome_told (sym c.in-Ok.is) ∙ R.ensures.judged) R.ensures.plan }

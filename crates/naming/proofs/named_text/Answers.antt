@@ -9,19 +9,19 @@ use Rattle.naming.proofs.named_text.Goals as goal
 use Rattle.naming.proofs.named_text.Goals.{After-put_gaps, Start}
 
 -- the plan is within the rules
-in-rules : (c : Start) → Ruled device c.args.plan
-in-rules c = ruled device c.args.plan (search rules) (search rules) c.requires.0
+in-rules : (c : Start) → Ruled device c.args.ruled.plan
+in-rules c = ruled device c.args.ruled.plan (search rules) (search rules) c.args.ruled.ruled
 
 -- what is known once the gaps are there
-known : (c : After-put_gaps) → Known c.args.plan c.count_named-tally.result c.count_of-of.result c.put_gaps.new.out c.args.buf.now
+known : (c : After-put_gaps) → Known c.args.ruled.plan c.count_named-tally.result c.count_of-of.result c.put_gaps.new.out c.args.buf.now
 known c =
-    record { rules = in-rules c.before.before.before.before.before.before; tally = c.count_named-tally.ensures; size = c.count_of-of.ensures; more = _; gaps = c.put_gaps.ensures; room = c.requires.1 }
+    record { rules = in-rules c.before.before.before.before.before.before; tally = c.count_named-tally.ensures; size = c.count_of-of.ensures; more = _; gaps = c.put_gaps.ensures; room = c.requires }
 
 pub count_of-of-requires : goal.count_of-of-requires
 count_of-of-requires c = (in-rules (goal.at.count_of-of-requires c).Start).fits.many_ports
 
 pub put_gaps-requires : goal.put_gaps-requires
-put_gaps-requires c = (c.requires.0, numbers_fit c.args.plan (in-rules (goal.at.put_gaps-requires c).Start))
+put_gaps-requires c = numbers_fit c.args.ruled.plan (in-rules (goal.at.put_gaps-requires c).Start)
 
 pub put_counts-at-requires : goal.put_counts-at-requires
 put_counts-at-requires c = counts-room _ _ _ _ _ (known (goal.at.put_counts-at-requires c).After-put_gaps)

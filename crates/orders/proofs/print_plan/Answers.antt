@@ -8,5 +8,5 @@ use Rattle.orders.proofs.print_plan.Goals as goal
 
 pub print_all-requires : goal.print_all-requires
 print_all-requires c =
-    let R = c.rehearse-rehearsed.ensures in
-    subst Rehearsing (sym (ap state_of R.rehearsal ∙ begun-for _)) (rehearsing-begun _ (ap outcome_told (sym c.in-Accepted.is) ∙ R.judged))
+    let R = c.rehearse-judged.ensures in
+    subst Rehearsing (sym (ap state_of R.rehearsal ∙ begun-for _)) (rehearsing-begun _ (ap outcome_told (sym c.in-Ok.is) ∙ R.judged))

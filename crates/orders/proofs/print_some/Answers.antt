@@ -2,15 +2,15 @@
 -- Assumes nothing.
 use Rattle.printing.proofs.StandsFor.{printed-run, printed-less}
 use Rattle.orders.proofs.print_some.Goals as goal
+use Rattle.orders.proofs.print_some.Goals.{in-Lines+then-is_ok, in-Lines+else-is_ok, in-Ended, in-Refused}
 
-pub returns-in-Lines-clause-runs : goal.returns-in-Lines-clause-runs
-returns-in-Lines-clause-runs c = printed-run _ _ c.requires c.fill-part.result c.fill-part.ensures.told
-
-pub returns-in-Lines-clause-less : goal.returns-in-Lines-clause-less
-returns-in-Lines-clause-less c = λ e. printed-less _ _ c.requires c.fill-part.result c.fill-part.ensures.told _ c.in-Lines.is
-
-pub returns-in-Ended-clause-runs : goal.returns-in-Ended-clause-runs
-returns-in-Ended-clause-runs c = printed-run _ _ c.requires c.fill-part.result c.fill-part.ensures.told
-
-pub returns-in-Refused-clause-runs : goal.returns-in-Refused-clause-runs
-returns-in-Refused-clause-runs c = printed-run _ _ c.requires c.fill-part.result c.fill-part.ensures.told
+pub returns : goal.returns
+returns c =
+    let F = c.fill-filled in
+    elim c.match-filled.branch [
+      | in-Lines+then-is_ok w ↦
+          rw w.more-is (printed-run _ _ c.requires F.result F.ensures.told, printed-less _ _ c.requires F.result F.ensures.told _ w.in-Lines.is)
+      | in-Lines+else-is_ok w ↦ rw w.more-is tt
+      | in-Ended w ↦ rw w.more-is tt
+      | in-Refused w ↦ rw w.more-is tt
+    ]

@@ -5,7 +5,7 @@ use Rattle.showing.proofs.Ruled.{ports-ruled}
 use Rattle.show.proofs.put_mark.Goals as goal
 
 pub put_ports-requires : goal.put_ports-requires
-put_ports-requires c = ports-ruled c.args.plan (search rules) (search rules) c.requires.0
+put_ports-requires c = ports-ruled c.args.ruled.plan (search rules) (search rules) c.args.ruled.ruled
 
 pub put_cords-requires : goal.put_cords-requires
-put_cords-requires c = (ports-ruled c.args.plan (search rules) (search rules) c.requires.0).1
+put_cords-requires c = (ports-ruled c.args.ruled.plan (search rules) (search rules) c.args.ruled.ruled).1

@@ -5,4 +5,4 @@ use Rattle.showing.proofs.Ruled.{ports-ruled}
 use Rattle.show.proofs.put_plan.Goals as goal
 
 pub put_ports-requires : goal.put_ports-requires
-put_ports-requires c = ports-ruled c.args.plan (search rules) (search rules) c.requires
+put_ports-requires c = ports-ruled c.args.ruled.plan (search rules) (search rules) c.args.ruled.ruled

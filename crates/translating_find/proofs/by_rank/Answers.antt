@@ -1,21 +1,32 @@
 -- `translating_find::by_rank`: a number that was read is looked up in the list.
 -- Assumes nothing.
-use mathlib.Core.Path.{sym, ap, ◌∙◌}
+use mathlib.Core.Path.{◌≡◌, sym, ap, ◌∙◌}
+use native.Mathlib.Omega.{arith}
+use Rattle.std.proofs.Common.{Some, None}
+use Rattle.std.proofs.lemmas.Result.{err_from_is_err_and}
 use Rattle.words.specs.Meaning.{refusal_of}
 use Rattle.text_numbers.specs.Answers.{read_is}
 use Rattle.translating_find.proofs.Found.{no_number, by-unrank}
 use Rattle.translating_find.proofs.by_rank.Goals as goal
 
-pub returns-in-Bad-clause-told : goal.returns-in-Bad-clause-told
-returns-in-Bad-clause-told c = let found = no_number _ _ _ c.args.p.now (sym (ap read_is c.in-Bad.is) ∙ c.read_number.ensures) in
-    ap refusal_of c.nowhere.ensures ∙ found.0
+pub returns-in_err-r-clause-told : goal.returns-in_err-r-clause-told
+returns-in_err-r-clause-told c =
+    let p = err_from_is_err_and c.from_residual.result c.from_residual.ensures.1 in
+    let e : c.read_number.result ≡ None = grind (arith, c.ok_or.ensures.value, c.in_err-r.was) in
+    let f : c.in_err-r.field-0.0 ≡ c.nowhere.result = grind (arith, c.ok_or.ensures.value, c.in_err-r.was) in
+    rw (p.1, p.2) (ap refusal_of (f ∙ c.nowhere.ensures) ∙ (no_number _ _ _ c.args.p.now (sym (ap read_is e) ∙ c.read_number.ensures)).0)
 
-pub returns-in-Bad-clause-bytes : goal.returns-in-Bad-clause-bytes
-returns-in-Bad-clause-bytes c = let found = no_number _ _ _ c.args.p.now (sym (ap read_is c.in-Bad.is) ∙ c.read_number.ensures) in
-    found.1
+pub returns-in_err-r-clause-bytes : goal.returns-in_err-r-clause-bytes
+returns-in_err-r-clause-bytes c =
+    let e : c.read_number.result ≡ None = grind (arith, c.ok_or.ensures.value, c.in_err-r.was) in
+    (no_number _ _ _ c.args.p.now (sym (ap read_is e) ∙ c.read_number.ensures)).1
 
-pub returns-in-Number-clause-told : goal.returns-in-Number-clause-told
-returns-in-Number-clause-told c = (by-unrank _ c.args.p.now c.requires.0 c.requires.1 _ (sym (ap read_is c.in-Number.is) ∙ c.read_number.ensures) _ _ c.unrank.ensures.answer c.unrank.ensures.bytes).0
+pub returns-clause-told : goal.returns-clause-told
+returns-clause-told c =
+    let e : c.read_number.result ≡ Some c.in_ok-r.r = grind (arith, c.ok_or.ensures.value, c.in_ok-r.was) in
+    (by-unrank _ c.args.p.now c.requires.0 c.requires.1 _ (sym (ap read_is e) ∙ c.read_number.ensures) _ _ c.unrank.ensures.answer c.unrank.ensures.bytes).0
 
-pub returns-in-Number-clause-bytes : goal.returns-in-Number-clause-bytes
-returns-in-Number-clause-bytes c = (by-unrank _ c.args.p.now c.requires.0 c.requires.1 _ (sym (ap read_is c.in-Number.is) ∙ c.read_number.ensures) _ _ c.unrank.ensures.answer c.unrank.ensures.bytes).1
+pub returns-clause-bytes : goal.returns-clause-bytes
+returns-clause-bytes c =
+    let e : c.read_number.result ≡ Some c.in_ok-r.r = grind (arith, c.ok_or.ensures.value, c.in_ok-r.was) in
+    (by-unrank _ c.args.p.now c.requires.0 c.requires.1 _ (sym (ap read_is e) ∙ c.read_number.ensures) _ _ c.unrank.ensures.answer c.unrank.ensures.bytes).1

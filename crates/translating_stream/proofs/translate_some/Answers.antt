@@ -1,17 +1,16 @@
 -- `translating_stream::translate_some`: the lines before `used` are taken, and their texts stand before `len` in the buffer. Each turn passes a newline.
 -- Assumes nothing.
 use mathlib.Core.Path.{subst, ◌∙◌}
-use Prim.Native.Nat.{◌-◌}
 use native.Mathlib.Omega.{arith}
 use Rattle.translating_stream.specs.Parts.{StepIs, LineWent}
 use Rattle.translating_stream.proofs.Taking.{line-inside, taken-line}
 use Rattle.translating_stream.proofs.translate_some.Goals as goal
-use Rattle.translating_stream.proofs.translate_some.Goals.{In-Went}
+use Rattle.translating_stream.proofs.translate_some.Goals.{In-Ok}
 
 -- the line that went
-went : (c : In-Went) → LineWent c.args.text.now c.loop-after.used c.loop-after.n c.loop-after.len c.loop-after.out c.line_at.new.out
-    c.in-Went.after c.in-Went.next c.in-Went.end
-went c = subst (StepIs _ _ _ _ _ _) c.in-Went.is c.line_at.ensures
+went : (c : In-Ok) → LineWent c.args.text.now c.loop-after.used c.loop-after.n c.loop-after.len c.loop-after.out c.line_at.new.out
+    c.in-Ok.after c.in-Ok.next c.in-Ok.end
+went c = subst (StepIs _ _ _ _ _ _) c.in-Ok.is c.line_at.ensures
 
 pub overflow_add-row : goal.overflow_add-row
 overflow_add-row c =

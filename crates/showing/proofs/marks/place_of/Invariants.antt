@@ -8,7 +8,7 @@ use Rattle.plan_rules.specs.Rules.{legs_of}
 use Rattle.showing.proofs.marks.place_of.Given as goal
 
 abbrev pub invariant-loop-step : goal.invariant-loop-step
-invariant-loop-step l = (l.leg < length (legs_of l.plan)) × (marks (take l.leg (legs_of l.plan)) + l.step ≡ l.k)
+invariant-loop-step l = (l.leg < length (legs_of l.ruled.plan)) × (marks (take l.leg (legs_of l.ruled.plan)) + l.step ≡ l.k)
 
 abbrev pub decreases-loop-step : goal.decreases-loop-step
-decreases-loop-step l = length (legs_of l.plan) - l.leg
+decreases-loop-step l = length (legs_of l.ruled.plan) - l.leg

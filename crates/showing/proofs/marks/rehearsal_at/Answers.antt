@@ -15,23 +15,23 @@ use Rattle.showing.proofs.marks.rehearsal_at.Goals as goal
 use Rattle.showing.proofs.marks.rehearsal_at.Goals.{After-leg_at-l, After-rank_along-rank}
 
 -- the mark's place and leg
-found : (c : After-leg_at-l) → Found c.args.plan c.args.k c.place_of-place.result c.leg_at-l.result
+found : (c : After-leg_at-l) → Found c.args.ruled.plan c.args.k c.place_of-leg.result c.leg_at-l.result
 found c =
-    record { starts = search rules; runs = search rules; plan = c.requires.0; place = c.place_of-place.ensures; leg = c.leg_at-l.ensures }
+    record { starts = search rules; runs = search rules; plan = c.args.ruled.ruled; place = c.place_of-leg.ensures; leg = c.leg_at-l.ensures }
 
 -- the rank that was found is listed
-listed : (c : After-rank_along-rank) → (c.args.plan.ports ≤ most_ports) × (c.rank_along-rank.result < count c.args.plan.ports)
+listed : (c : After-rank_along-rank) → (c.args.ruled.plan.ports ≤ most_ports) × (c.rank_along-rank.result < count c.args.ruled.plan.ports)
 listed c = rank-listed _ _ _ _ (found c.before) _ c.rank_along-rank.ensures
 
 pub leg_at-l-requires : goal.leg_at-l-requires
 leg_at-l-requires c =
-    (c.requires.0, omega (arith, c.place_of-place.ensures.leg, legs-many device c.args.plan (search rules) (search rules) c.requires.0))
+    omega (arith, c.place_of-leg.ensures.leg, legs-many device c.args.ruled.plan (search rules) (search rules) c.args.ruled.ruled)
 
 pub rank_along-rank-requires : goal.rank_along-rank-requires
 rank_along-rank-requires c = rank-asked _ _ _ _ (found c)
 
 pub slice_bounds-panel-end : goal.slice_bounds-panel-end
-slice_bounds-panel-end c = let h = (listed c).0 in search rules
+slice_bounds-panel-end c = let h = (listed (goal.at.slice_bounds-panel-end c).After-rank_along-rank).0 in search rules
 
 pub slice_bounds-put_pattern-end : goal.slice_bounds-put_pattern-end
 slice_bounds-put_pattern-end c = let h = (listed (goal.at.slice_bounds-put_pattern-end c).After-rank_along-rank).0 in sym (length-take-le _ _ (search rules))
