@@ -7,10 +7,10 @@ use Rattle.benches_calls.specs.Answers.{share_told, sum_told}
 use Rattle.benches_calls.proofs.sharing.share.Reads as share
 use Rattle.benches_calls.proofs.adding.sum.Reads as sum
 
--- share(ports: u64, benches: u64, bench: u64) -> Share
+-- share(ports: u64, benches: u64, bench: u64) -> Result<Option<Leg>, Fault>
 pub share-says : Says share.Learnt (λ κs (ports, (benches, (bench, _))) r e. share_told r ≡ share_of ports benches bench)
 share-says κs a r e h = h
 
--- sum(ports: u64, benches: u64, counts: &[u64]) -> Sum
+-- sum(ports: u64, benches: u64, counts: &[u64]) -> Result<Counts, Fault>
 pub sum-says : Says sum.Learnt (λ κs (ports, (benches, (counts, _))) r e. sum_told r ≡ sum_of ports benches counts.now)
 sum-says κs a r e h = h

@@ -16,11 +16,11 @@ use Rattle.benches_laws.specs.Calls.{share_of, sum_of}
 use Rattle.benches_calls.specs.Answers.{fault_told, share_told, counts_are, sum_told}
 use Rattle.benches_calls.specs.declared.Fault.{Fault}
 use Rattle.benches_calls.specs.declared.Fault.TheVariants.{Ports, Benches, Bench, Counts as Fault-Counts}
-use Rattle.benches_calls.specs.declared.Share.{Share}
-use Rattle.benches_calls.specs.declared.Share.TheVariants.{Plan, NoPlan, Refused as Share-Refused}
+use Rattle.std.specs.declared.option.Option.{Option as Maybe}
+use Rattle.std.specs.declared.option.Option.TheVariants.{Some, None}
 use Rattle.benches_calls.specs.declared.Counts.{Counts}
-use Rattle.benches_calls.specs.declared.Sum.{Sum}
-use Rattle.benches_calls.specs.declared.Sum.TheVariants.{Is, Refused as Sum-Refused}
+use Rattle.std.specs.declared.result.Result.{Result}
+use Rattle.std.specs.declared.result.Result.TheVariants.{Ok, Err}
 
 -- ---- refusals
 
@@ -47,18 +47,18 @@ module _ (A : Type 0) where
 leg-once : (l m : Leg) → leg_is l ≡ leg_is m → l ≡ m
 leg-once l m e = ap (λ (x : plan.Leg). record { start = x.start; back = x.back; run = x.run }) e
 
-share-once : (r s : Share) → share_told r ≡ share_told s → r ≡ s
-share-once (Plan l) (Plan m) e = ap Plan (leg-once l m cc)
-share-once (Plan l) NoPlan e = absurd (true≢false cc)
-share-once (Plan l) (Share-Refused g) e = absurd (not-both (sym e))
-share-once NoPlan (Plan m) e = absurd (true≢false cc)
-share-once NoPlan NoPlan e = refl
-share-once NoPlan (Share-Refused g) e = absurd (not-both (sym e))
-share-once (Share-Refused f) (Plan m) e = absurd (not-both e)
-share-once (Share-Refused f) NoPlan e = absurd (not-both e)
-share-once (Share-Refused f) (Share-Refused g) e = ap Share-Refused (fault-once (Option plan.Leg) f g e)
+share-once : (r s : Result (Maybe Leg) Fault) → share_told r ≡ share_told s → r ≡ s
+share-once (Ok (Some l)) (Ok (Some m)) e = ap (λ x. Ok (Some x)) (leg-once l m cc)
+share-once (Ok (Some l)) (Ok None) e = absurd (true≢false cc)
+share-once (Ok (Some l)) (Err g) e = absurd (not-both (sym e))
+share-once (Ok None) (Ok (Some m)) e = absurd (true≢false cc)
+share-once (Ok None) (Ok None) e = refl
+share-once (Ok None) (Err g) e = absurd (not-both (sym e))
+share-once (Err f) (Ok (Some m)) e = absurd (not-both e)
+share-once (Err f) (Ok None) e = absurd (not-both e)
+share-once (Err f) (Err g) e = ap Err (fault-once (Option plan.Leg) f g e)
 
-pub only-share : (n k b : ℕ) (r s : Share) → share_told r ≡ share_of n k b → share_told s ≡ share_of n k b → r ≡ s
+pub only-share : (n k b : ℕ) (r s : Result (Maybe Leg) Fault) → share_told r ≡ share_of n k b → share_told s ≡ share_of n k b → r ≡ s
 only-share n k b r s e f = share-once r s (e ∙ sym f)
 
 -- ---- sums
@@ -66,11 +66,11 @@ only-share n k b r s e f = share-once r s (e ∙ sym f)
 counts-once : (a b : Counts) → counts_are a ≡ counts_are b → a ≡ b
 counts-once a b e = ap (λ (x : calls.Counts). record { covered = x.covered; opened = x.opened; errors = x.errors }) e
 
-sum-once : (r s : Sum) → sum_told r ≡ sum_told s → r ≡ s
-sum-once (Is a) (Is b) e = ap Is (counts-once a b (accepted-once e))
-sum-once (Is a) (Sum-Refused g) e = absurd (not-both (sym e))
-sum-once (Sum-Refused f) (Is b) e = absurd (not-both e)
-sum-once (Sum-Refused f) (Sum-Refused g) e = ap Sum-Refused (fault-once calls.Counts f g e)
+sum-once : (r s : Result Counts Fault) → sum_told r ≡ sum_told s → r ≡ s
+sum-once (Ok a) (Ok b) e = ap Ok (counts-once a b (accepted-once e))
+sum-once (Ok a) (Err g) e = absurd (not-both (sym e))
+sum-once (Err f) (Ok b) e = absurd (not-both e)
+sum-once (Err f) (Err g) e = ap Err (fault-once calls.Counts f g e)
 
-pub only_sum : (n k : ℕ) (ns : List ℕ) (r s : Sum) → sum_told r ≡ sum_of n k ns → sum_told s ≡ sum_of n k ns → r ≡ s
+pub only_sum : (n k : ℕ) (ns : List ℕ) (r s : Result Counts Fault) → sum_told r ≡ sum_of n k ns → sum_told s ≡ sum_of n k ns → r ≡ s
 only_sum n k ns r s e f = sum-once r s (e ∙ sym f)

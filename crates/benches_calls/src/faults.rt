@@ -5,7 +5,7 @@ ghost use Rattle.benches_calls.specs.Answers.{fault_number, fault_spot};
 
 use crate::Fault;
 
-// The number of a refusal.
+// The number of a refusal, as C has it.
 pub fn fault_number(f: Fault) -> u8
     ensures { result ≡ fault_number f }
 {
@@ -22,9 +22,7 @@ pub fn fault_place(f: Fault) -> u64
     ensures { result ≡ spot_number (fault_spot f) }
 {
     match f {
-        Fault::Ports => 0,
-        Fault::Benches => 0,
-        Fault::Bench => 0,
+        Fault::Ports | Fault::Benches | Fault::Bench => 0,
         Fault::Counts(bench) => bench,
     }
 }

@@ -5,8 +5,6 @@ pub mod adding;
 pub mod faults;
 pub mod sharing;
 
-use words::Leg;
-
 // Why a call is refused: ports not 2 to 20, benches not 1 to 64 or counts not three for each, a bench that is not below them, counts of a bench that cannot be.
 #[derive(Clone, Copy)]
 pub enum Fault {
@@ -16,25 +14,10 @@ pub enum Fault {
     Counts(u64),
 }
 
-// What a bench gets: its plan's one leg, or no plan.
-#[derive(Clone, Copy)]
-pub enum Share {
-    Plan(Leg),
-    NoPlan,
-    Refused(Fault),
-}
-
 // What marks were covered, what marks are open, and how many errors there were.
 #[derive(Clone, Copy)]
 pub struct Counts {
     pub covered: u64,
     pub opened: u64,
     pub errors: u64,
-}
-
-// The counts of all benches.
-#[derive(Clone, Copy)]
-pub enum Sum {
-    Is(Counts),
-    Refused(Fault),
 }

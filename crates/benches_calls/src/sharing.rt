@@ -1,5 +1,5 @@
 // How the patterns are shared out among benches.
-ghost use Rattle.std.specs.Prelude.{◌≡◌, ◌≤◌, ◌<◌};
+ghost use Rattle.std.specs.Prelude.{◌≡◌, ◌≤◌, ◌<◌, Ok};
 ghost use Rattle.listing.specs.Limits.{largest64};
 ghost use Rattle.words.specs.Told.{accepted};
 ghost use Rattle.words.specs.Shape.{one_of};
@@ -8,7 +8,7 @@ ghost use Rattle.benches_laws.specs.Plans.{leg_from};
 ghost use Rattle.benches_laws.specs.Calls.{most_benches, share_of};
 ghost use Rattle.benches_calls.specs.Answers.{share_told};
 
-use crate::{Fault, Share};
+use crate::Fault;
 use pattern_check::checking::in_size;
 use pattern_steps::counts::count_of;
 use words::Leg;
@@ -20,10 +20,7 @@ pub const MOST_BENCHES: u64 = 64;
 pub fn some_benches(benches: u64) -> bool
     ensures { result ≡ one_of most_benches benches }
 {
-    if benches < 1 {
-        return false;
-    }
-    benches <= MOST_BENCHES
+    1 <= benches && benches <= MOST_BENCHES
 }
 
 // How many marks a bench has.
@@ -33,9 +30,10 @@ pub fn marks_of(total: u64, benches: u64, bench: u64) -> u64
 {
     let each = total / benches;
     if bench < total % benches {
-        return each + 1;
+        each + 1
+    } else {
+        each
     }
-    each
 }
 
 // The rank that its share begins at.
@@ -46,41 +44,42 @@ fn start_of(total: u64, benches: u64, bench: u64) -> u64
     let each = total / benches;
     let over = total % benches;
     if bench < over {
-        return bench * each + bench;
+        bench * each + bench
+    } else {
+        bench * each + over
     }
-    bench * each + over
 }
 
 // The leg of so many marks, or no plan where there are none.
-fn leg_from(start: u64, marks: u64) -> Share
-    ensures { share_told result ≡ accepted (leg_from start marks) }
+fn leg_from(start: u64, marks: u64) -> Option<Leg>
+    ensures { share_told (Ok result) ≡ accepted (leg_from start marks) }
 {
     if marks < 1 {
-        return Share::NoPlan;
+        return None;
     }
-    Share::Plan(Leg {
-        start: start,
+    Some(Leg {
+        start,
         back: false,
         run: marks - 1,
     })
 }
 
-// The share of a bench.
-pub fn share(ports: u64, benches: u64, bench: u64) -> Share
+// The share of a bench: its plan's one leg, or no plan.
+pub fn share(ports: u64, benches: u64, bench: u64) -> Result<Option<Leg>, Fault>
     ensures { share_told result ≡ share_of ports benches bench }
 {
     if !in_size(ports as usize) {
-        return Share::Refused(Fault::Ports);
+        return Err(Fault::Ports);
     }
     if !some_benches(benches) {
-        return Share::Refused(Fault::Benches);
+        return Err(Fault::Benches);
     }
     if benches <= bench {
-        return Share::Refused(Fault::Bench);
+        return Err(Fault::Bench);
     }
     let total = count_of(ports as u8);
-    leg_from(
+    Ok(leg_from(
         start_of(total, benches, bench),
         marks_of(total, benches, bench),
-    )
+    ))
 }

@@ -14,7 +14,7 @@ ghost use Rattle.benches_face.specs.Values.{version_told, share_words, counts_wo
 use benches_calls::adding::sum;
 use benches_calls::faults::{fault_number, fault_place};
 use benches_calls::sharing::share;
-use benches_calls::{Fault, Share, Sum};
+use benches_calls::{Counts, Fault};
 use face_values::answers::{ANSWER_WORDS, give};
 
 // JIDROFEX_BENCHES_VERSION
@@ -30,26 +30,28 @@ fn refuse(f: Fault, answer: &mut [u64; ANSWER_WORDS]) -> u8
 }
 
 // The marks of a bench's plan, its start and its run; zeros without a plan.
-fn give_share(shared: Share, answer: &mut [u64; ANSWER_WORDS]) -> u8
+fn give_share(shared: Result<Option<words::Leg>, Fault>, answer: &mut [u64; ANSWER_WORDS]) -> u8
     requires { (l : Leg) → share_told shared ≡ accepted (some l) → l.run < largest64 }
     ensures number { result ≡ number_told (share_told shared) }
     ensures words { answer.new ≡ words_told share_words (share_told shared) }
 {
     match shared {
-        Share::Refused(f) => refuse(f, answer),
-        Share::NoPlan => give(answer, 0, 0, 0, 0, 0),
-        Share::Plan(leg) => give(answer, leg.run + 1, leg.start, leg.run, 0, 0),
+        Err(f) => refuse(f, answer),
+        Ok(plan) => match plan {
+            None => give(answer, 0, 0, 0, 0, 0),
+            Some(leg) => give(answer, leg.run + 1, leg.start, leg.run, 0, 0),
+        },
     }
 }
 
 // The sums of the covered, of the open and of the errors.
-fn give_sum(added: Sum, answer: &mut [u64; ANSWER_WORDS]) -> u8
+fn give_sum(added: Result<Counts, Fault>, answer: &mut [u64; ANSWER_WORDS]) -> u8
     ensures number { result ≡ number_told (sum_told added) }
     ensures words { answer.new ≡ words_told counts_words (sum_told added) }
 {
     match added {
-        Sum::Refused(f) => refuse(f, answer),
-        Sum::Is(counts) => give(answer, counts.covered, counts.opened, counts.errors, 0, 0),
+        Err(f) => refuse(f, answer),
+        Ok(counts) => give(answer, counts.covered, counts.opened, counts.errors, 0, 0),
     }
 }
 
@@ -61,7 +63,7 @@ pub fn jidrofex_benches_version(answer: &mut [u64; ANSWER_WORDS]) -> u8
     give(answer, VERSION, 0, 0, 0, 0)
 }
 
-// The share of a bench.
+// The share of a bench. (A call for C is one line, and what it tells differs.)
 pub fn jidrofex_benches_share(
     ports: u64,
     benches: u64,

@@ -5,15 +5,15 @@ use Rattle.std.proofs.Math.Option.{Option, none, some}
 use Rattle.words.specs.Told.{Told, accepted, refused, at_line}
 use Rattle.benches_laws.specs.Calls.{per_bench}
 use Rattle.benches_text.specs.Reading.{Three}
-use Rattle.benches_reading.specs.declared.Triple.{Triple}
-use Rattle.benches_reading.specs.declared.Triple.TheVariants.{Numbers, Bad as Triple-Bad}
 use Rattle.benches_reading.specs.declared.Lines.{Lines}
 use Rattle.benches_reading.specs.declared.Lines.TheVariants.{All, Unended, Bad as Lines-Bad}
+use Rattle.std.specs.declared.option.Option.{Option as Maybe}
+use Rattle.std.specs.declared.option.Option.TheVariants.{Some, None}
 
 -- the three numbers of a line
-abbrev pub triple_is : Triple → Option Three
-triple_is (Numbers a b c) = some (record { first = a; second = b; third = c })
-triple_is Triple-Bad = none
+abbrev pub triple_is : Maybe (ℕ × ℕ × ℕ) → Option Three
+triple_is (Some (a, b, c)) = some (record { first = a; second = b; third = c })
+triple_is None = none
 
 -- how many numbers were read: 11 at a line without a newline, 8 at one that is not three numbers
 abbrev pub lines_told : Lines → Told ℕ

@@ -8,19 +8,13 @@ ghost use Rattle.benches_text.specs.Reading.{three_after, three_in, counts_in};
 ghost use Rattle.benches_reading.specs.Answers.{triple_is, lines_told};
 
 use text_entries::{Entry, entry_at};
-use text_keys::{Found, find};
+use text_keys::find;
 
 // The numbers of a line.
 pub const PER_LINE: usize = 3;
 
-// The three numbers that a line is, or that it is none.
-#[derive(Clone, Copy)]
-pub enum Triple {
-    Numbers(u64, u64, u64),
-    Bad,
-}
-
 // How many lines a text has, each of three numbers; or the first line, counted from 1, that has no newline or is not three numbers.
+// (Three ways, so no Result is plainer.)
 #[derive(Clone, Copy)]
 pub enum Lines {
     All(usize),
@@ -28,37 +22,37 @@ pub enum Lines {
     Bad(usize),
 }
 
-// Two numbers, and the third, which begins at a place and is the last.
-fn third(t: &[u8], a: u64, b: u64, at: usize) -> Triple
+// Two numbers, and the third (no `?`: an entry is one of three), which begins at a place and is the last.
+fn third(t: &[u8], a: u64, b: u64, at: usize) -> Option<(u64, u64, u64)>
     requires { at ≤ length t.now }
     ensures { triple_is result ≡ three_after (a ∷ b ∷ []) (drop at t.now) }
 {
     match entry_at(t, at) {
-        Entry::Bad => Triple::Bad,
-        Entry::Last(c) => Triple::Numbers(a, b, c),
-        Entry::More(_, _) => Triple::Bad,
+        Entry::Bad => None,
+        Entry::Last(c) => Some((a, b, c)),
+        Entry::More(_, _) => None,
     }
 }
 
 // A number, and the second, which begins at a place and is not the last.
-fn second(t: &[u8], a: u64, at: usize) -> Triple
+fn second(t: &[u8], a: u64, at: usize) -> Option<(u64, u64, u64)>
     requires { at ≤ length t.now }
     ensures { triple_is result ≡ three_after (a ∷ []) (drop at t.now) }
 {
     match entry_at(t, at) {
-        Entry::Bad => Triple::Bad,
-        Entry::Last(_) => Triple::Bad,
+        Entry::Bad => None,
+        Entry::Last(_) => None,
         Entry::More(b, next) => third(t, a, b, next),
     }
 }
 
 // The three numbers that a line is.
-pub fn three_in(t: &[u8]) -> Triple
+pub fn three_in(t: &[u8]) -> Option<(u64, u64, u64)>
     ensures { triple_is result ≡ three_in t.now }
 {
     match entry_at(t, 0) {
-        Entry::Bad => Triple::Bad,
-        Entry::Last(_) => Triple::Bad,
+        Entry::Bad => None,
+        Entry::Last(_) => None,
         Entry::More(a, next) => second(t, a, next),
     }
 }
@@ -87,18 +81,19 @@ pub fn read_counts(t: &[u8], counts: &mut [u64]) -> Lines
     let n = t.len();
     let mut lines: usize = 0;
     let mut at: usize = 0;
+    // No `for`: a turn goes on by a line.
     while at < n {
         match find(&t[at..], b'\n') {
-            Found::Nowhere => {
+            None => {
                 return Lines::Unended(lines + 1);
             }
-            Found::At(k) => {
+            Some(k) => {
                 let to = at + k;
                 match three_in(&t[at..to]) {
-                    Triple::Bad => {
+                    None => {
                         return Lines::Bad(lines + 1);
                     }
-                    Triple::Numbers(a, b, c) => {
+                    Some((a, b, c)) => {
                         put_three(a, b, c, lines, counts);
                         lines += 1;
                         at = to + 1;

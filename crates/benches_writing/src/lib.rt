@@ -14,7 +14,7 @@ ghost use Rattle.benches_text.specs.Text.{bench_line, bench_lines, sum_lines, mo
 ghost use Rattle.benches_writing.specs.Lines.{share_line};
 
 use benches_calls::sharing::share;
-use benches_calls::{Counts, Share};
+use benches_calls::{Counts, Fault};
 use line_putting::{put_number, put_spelled, put_text};
 use plan_facts::{put_line, run_line};
 use words::{Leg, Signed};
@@ -43,14 +43,14 @@ fn put_leg(bench: u64, l: Leg, from: usize, buf: &mut [u8]) -> usize
 }
 
 // The line of a bench's share; nothing for one that is refused.
-fn put_share(bench: u64, shared: Share, at: usize, buf: &mut [u8]) -> usize
+fn put_share(bench: u64, shared: Result<Option<Leg>, Fault>, at: usize, buf: &mut [u8]) -> usize
     requires { at + length (share_line bench (share_told shared)) ≤ length buf.old }
     ensures { Puts at (share_line bench (share_told shared)) buf.old result buf.new }
 {
     match shared {
-        Share::Refused(_) => at,
-        Share::NoPlan => put_none(bench, at, buf),
-        Share::Plan(l) => put_leg(bench, l, at, buf),
+        Err(_) => at,
+        Ok(None) => put_none(bench, at, buf),
+        Ok(Some(l)) => put_leg(bench, l, at, buf),
     }
 }
 
@@ -61,12 +61,8 @@ pub fn put_shares(ports: u64, benches: u64, buf: &mut [u8]) -> usize
     ensures puts { Puts 0 (bench_lines ports benches 0 benches) buf.old result buf.new }
 {
     let mut at: usize = 0;
-    let mut bench: u64 = 0;
-    let mut left = benches;
-    while 0 < left {
+    for bench in 0..benches {
         at = put_share(bench, share(ports, benches, bench), at, buf);
-        bench += 1;
-        left -= 1;
     }
     at
 }
@@ -111,7 +107,7 @@ pub fn put_sums(c: Counts, of: u64, buf: &mut [u8]) -> usize
     put_line(b"of=", of, all, buf)
 }
 
-// A refusal, by its number and its place, at the front of a buffer.
+// A refusal, by its number and its place, at the front of a buffer. (Two kinds of refusal have numbers in one row.)
 pub fn put_refusal(number: u8, place: u64, buf: &mut [u8]) -> usize
     requires { most_answer ≤ length buf.old }
     ensures fits { result ≤ most_answer }

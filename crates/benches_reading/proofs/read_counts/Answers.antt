@@ -13,37 +13,37 @@ use Rattle.benches_text.specs.Reading.{three_in}
 use Rattle.benches_text.proofs.Reading.{read-unended, read-bad, read_more, read_all, read-front, not-read, newline-inside, line_as}
 use Rattle.benches_reading.specs.Answers.{triple_is}
 use Rattle.benches_reading.proofs.read_counts.Goals as goal
-use Rattle.benches_reading.proofs.read_counts.Goals.{After-three_in, In-At}
+use Rattle.benches_reading.proofs.read_counts.Goals.{After-three_in, In-Some}
 
 -- the newline stands k after the place
-at-newline : (c : In-At)
-    → some c.in-At.k ≡ first_of newline (drop c.loop-at.at c.args.t.now)
+at-newline : (c : In-Some)
+    → some c.in-Some.k ≡ first_of newline (drop c.loop-at.at c.args.t.now)
 at-newline c =
-    sym (ap found_is c.in-At.is) ∙ c.find.ensures
+    sym (ap found_is c.in-Some.is) ∙ c.find.ensures
     ∙ ap (first_of newline) (to_the_end c.args.t.now c.loop-at.at)
 
-inside : (c : In-At)
-    → c.loop-at.at + c.in-At.k < length c.args.t.now
+inside : (c : In-Some)
+    → c.loop-at.at + c.in-Some.k < length c.args.t.now
 inside c = newline-inside _ _ _ _ c.loop-at.invariant.4 _ (at-newline c)
 
 -- what the line is read as
 line_read : (c : After-three_in)
-    → triple_is c.three_in.result ≡ three_in (take c.in-At.k (drop c.loop-at.at c.args.t.now))
+    → triple_is c.three_in.result ≡ three_in (take c.in-Some.k (drop c.loop-at.at c.args.t.now))
 line_read c =
-    let e : c.loop-at.at + c.in-At.k - c.loop-at.at ≡ c.in-At.k = omega arith in
+    let e : c.loop-at.at + c.in-Some.k - c.loop-at.at ≡ c.in-Some.k = omega arith in
     c.three_in.ensures ∙ ap (λ j. three_in (take j (drop c.loop-at.at c.args.t.now))) e
 
 -- no newline comes
-pub returns-in-Nowhere-clause-told : goal.returns-in-Nowhere-clause-told
-returns-in-Nowhere-clause-told c = let nowhere : none ≡ first_of newline (drop c.loop-at.at c.args.t.now) =
-    sym (ap found_is c.in-Nowhere.is) ∙ c.find.ensures ∙ ap (first_of newline) (to_the_end c.args.t.now c.loop-at.at) in
+pub returns-in-None-clause-told : goal.returns-in-None-clause-told
+returns-in-None-clause-told c = let nowhere : none ≡ first_of newline (drop c.loop-at.at c.args.t.now) =
+    sym (ap found_is c.in-None.is) ∙ c.find.ensures ∙ ap (first_of newline) (to_the_end c.args.t.now c.loop-at.at) in
     let inside : c.loop-at.at < length c.args.t.now = omega (arith, c.loop-at.invariant.0, c.loop-at-test.true) in
     let N = not-read c.args.t.now c.loop-at.counts _ _ (line_as (read-unended _ _ _ _ c.loop-at.invariant.4 nowhere inside)) in
     N.0
 
-pub returns-in-Nowhere-clause-front : goal.returns-in-Nowhere-clause-front
-returns-in-Nowhere-clause-front c = let nowhere : none ≡ first_of newline (drop c.loop-at.at c.args.t.now) =
-    sym (ap found_is c.in-Nowhere.is) ∙ c.find.ensures ∙ ap (first_of newline) (to_the_end c.args.t.now c.loop-at.at) in
+pub returns-in-None-clause-front : goal.returns-in-None-clause-front
+returns-in-None-clause-front c = let nowhere : none ≡ first_of newline (drop c.loop-at.at c.args.t.now) =
+    sym (ap found_is c.in-None.is) ∙ c.find.ensures ∙ ap (first_of newline) (to_the_end c.args.t.now c.loop-at.at) in
     let inside : c.loop-at.at < length c.args.t.now = omega (arith, c.loop-at.invariant.0, c.loop-at-test.true) in
     let N = not-read c.args.t.now c.loop-at.counts _ _ (line_as (read-unended _ _ _ _ c.loop-at.invariant.4 nowhere inside)) in
     λ ns e h. N.1 ns e (omega (arith, c.loop-at.invariant.3))
@@ -54,24 +54,24 @@ overflow_add-to c = let h = inside c in search rules
 pub slice_bounds-three_in-end : goal.slice_bounds-three_in-end
 slice_bounds-three_in-end c = let h = inside c in search rules
 
-pub returns-in-Bad-clause-told : goal.returns-in-Bad-clause-told
-returns-in-Bad-clause-told c = let N = not-read c.args.t.now c.loop-at.counts _ _
-    (line_as (read-bad _ _ _ _ c.loop-at.invariant.4 _ (at-newline (goal.at.returns-in-Bad-clause-told c).In-At) (sym (ap triple_is c.in-Bad.is) ∙ line_read (goal.at.returns-in-Bad-clause-told c).After-three_in))) in
+pub returns-in-None-three_in-clause-told : goal.returns-in-None-three_in-clause-told
+returns-in-None-three_in-clause-told c = let N = not-read c.args.t.now c.loop-at.counts _ _
+    (line_as (read-bad _ _ _ _ c.loop-at.invariant.4 _ (at-newline (goal.at.returns-in-None-three_in-clause-told c).In-Some) (sym (ap triple_is c.in-None-three_in.is) ∙ line_read (goal.at.returns-in-None-three_in-clause-told c).After-three_in))) in
     N.0
 
-pub returns-in-Bad-clause-front : goal.returns-in-Bad-clause-front
-returns-in-Bad-clause-front c = let N = not-read c.args.t.now c.loop-at.counts _ _
-    (line_as (read-bad _ _ _ _ c.loop-at.invariant.4 _ (at-newline (goal.at.returns-in-Bad-clause-front c).In-At) (sym (ap triple_is c.in-Bad.is) ∙ line_read (goal.at.returns-in-Bad-clause-front c).After-three_in))) in
+pub returns-in-None-three_in-clause-front : goal.returns-in-None-three_in-clause-front
+returns-in-None-three_in-clause-front c = let N = not-read c.args.t.now c.loop-at.counts _ _
+    (line_as (read-bad _ _ _ _ c.loop-at.invariant.4 _ (at-newline (goal.at.returns-in-None-three_in-clause-front c).In-Some) (sym (ap triple_is c.in-None-three_in.is) ∙ line_read (goal.at.returns-in-None-three_in-clause-front c).After-three_in))) in
     λ ns e h. N.1 ns e (omega (arith, c.loop-at.invariant.3))
 
 pub loop-at-preserved : goal.loop-at-preserved
 loop-at-preserved c =
-    let h = inside (goal.at.loop-at-preserved c).In-At in (
+    let h = inside (goal.at.loop-at-preserved c).In-Some in (
       c.loop-at.invariant.0,
       omega arith,
       omega (arith, c.loop-at.invariant.2),
       c.put_three.ensures.long ∙ c.loop-at.invariant.3,
-      read_more _ _ _ _ c.loop-at.invariant.4 _ (at-newline (goal.at.loop-at-preserved c).In-At) _ (sym (ap triple_is c.in-Numbers.is) ∙ line_read (goal.at.loop-at-preserved c).After-three_in) _ c.put_three.ensures.long c.put_three.ensures.front,
+      read_more _ _ _ _ c.loop-at.invariant.4 _ (at-newline (goal.at.loop-at-preserved c).In-Some) _ (sym (ap triple_is c.in-Some-three_in.is) ∙ line_read (goal.at.loop-at-preserved c).After-three_in) _ c.put_three.ensures.long c.put_three.ensures.front,
     )
 
 pub returns-clause-told : goal.returns-clause-told

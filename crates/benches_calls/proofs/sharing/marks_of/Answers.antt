@@ -6,5 +6,5 @@ use Rattle.benches_calls.proofs.sharing.marks_of.Goals as goal
 pub returns-then-bench-total : goal.returns-then-bench-total
 returns-then-bench-total c = sym (share-more _ _ _ c.if-bench-total.true)
 
-pub returns : goal.returns
-returns c = sym (share-each _ _ _ c.if-bench-total.false)
+pub returns-else-bench-total : goal.returns-else-bench-total
+returns-else-bench-total c = sym (share-each _ _ _ c.if-bench-total.false)

@@ -8,5 +8,5 @@ use Rattle.benches_calls.proofs.sharing.start_of.Goals as goal
 pub returns-then-bench-over : goal.returns-then-bench-over
 returns-then-bench-over c = sym (begins-front _ _ (omega (arith, c.requires.1)) _ (omega (arith, c.if-bench-over.true)))
 
-pub returns : goal.returns
-returns c = sym (begins-back _ _ (omega (arith, c.requires.1)) _ c.if-bench-over.false)
+pub returns-else-bench-over : goal.returns-else-bench-over
+returns-else-bench-over c = sym (begins-back _ _ (omega (arith, c.requires.1)) _ c.if-bench-over.false)
