@@ -77,15 +77,14 @@ twins refusal_place Jack Port "$port_for_jack" 'pub fn probe(b: WORD) -> Place {
 twins refusal_both Jack Port "$port_for_jack" 'pub fn probe(a: Jack, b: WORD) -> Place { Place::AtJacks(a, b) }'
 
 # look-ups: what each takes, and what it gives
-over panel 'panel words' 'use panel::answers::{Found, Looked};
-use panel::lookups::{jack_of, port_at};
-use words::{Jack, Port};'
-twins port_at_takes Jack Port "$port_for_jack" 'pub fn probe(panel: &[u8], x: WORD) -> Looked { port_at(panel, x) }'
-twins jack_of_takes Port Jack "$jack_for_port" 'pub fn probe(panel: &[u8], x: WORD) -> Found { jack_of(panel, x) }'
+over panel 'panel words' 'use panel::lookups::{jack_of, port_at};
+use words::{Jack, Port, Refusal};'
+twins port_at_takes Jack Port "$port_for_jack" 'pub fn probe(panel: &[u8], x: WORD) -> Result<Port, Refusal> { port_at(panel, x) }'
+twins jack_of_takes Port Jack "$jack_for_port" 'pub fn probe(panel: &[u8], x: WORD) -> Result<Jack, Refusal> { jack_of(panel, x) }'
 twins port_at_gives Port Jack "$port_for_jack" 'fn number(x: WORD) -> u8 { x.0 }
-pub fn probe(panel: &[u8], jack: Jack) -> u8 { match port_at(panel, jack) { Looked::Joined(x) => number(x), Looked::Refused(_) => 0 } }'
+pub fn probe(panel: &[u8], jack: Jack) -> u8 { match port_at(panel, jack) { Ok(x) => number(x), Err(_) => 0 } }'
 twins jack_of_gives Jack Port "$jack_for_port" 'fn number(x: WORD) -> u8 { x.0 }
-pub fn probe(panel: &[u8], port: Port) -> u8 { match jack_of(panel, port) { Found::Held(x) => number(x), Found::Refused(_) => 0 } }'
+pub fn probe(panel: &[u8], port: Port) -> u8 { match jack_of(panel, port) { Ok(x) => number(x), Err(_) => 0 } }'
 
 # lines in bulk are of a rehearsal, requests and reports of a campaign
 over printing 'printing campaign campaign_state plan_rules words' 'use campaign::{Campaign, Reported, Requested};
