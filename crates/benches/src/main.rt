@@ -172,6 +172,7 @@ fn ask_text(streams: &mut Streams, t: &[u8]) {
     }
 }
 
+// (Programs differ here in what they name: it is all that a main says.)
 fn main(rt: HostRuntime) {
     answer_input(&rt, &mut [0u8; READ], b"benches", b"counts", ask_text);
 }

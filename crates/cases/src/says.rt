@@ -10,7 +10,7 @@ pub fn number(rt: &impl Print, n: u64) {
     let _ = rt.print(n);
 }
 
-// The end of a line: nothing more where all is as expected.
+// The end of a line: nothing more where all is as expected. (Whether it is so is what was found.)
 pub fn end(rt: &impl Print, good: bool) {
     if good {
         text(rt, b"\n");

@@ -35,7 +35,7 @@ fn added(n: u64, so: bool) -> u64 {
     if so && n < LARGEST { n + 1 } else { n }
 }
 
-// One step round the circuit.
+// One step round the circuit. (Which way is data of the walk.)
 fn step(p: &mut [u8], back: bool) {
     if back {
         let _ = previous(p);

@@ -29,6 +29,7 @@ fn print_plan(streams: &mut Streams, text: &[u8]) {
     }
 }
 
+// (`benches` has such a main as well: programs differ here in what they name.)
 fn main(rt: HostRuntime) {
     answer_input(&rt, &mut [0u8; JUDGED], b"named", b"plan", print_plan);
 }

@@ -19,7 +19,7 @@ const JUDGED: usize = 1024;
 // How many bytes of lines are written at a time.
 const BUFFER: usize = 65536;
 
-// Bytes written to standard output, under this program's name.
+// Bytes written to standard output, under this program's name. (`show` says its own.)
 fn put(streams: &mut Streams, bytes: &[u8]) -> Result<(), Unwritten> {
     written(streams, b"orders", bytes)
 }
@@ -88,6 +88,7 @@ fn print_plan(streams: &mut Streams, text: &[u8]) {
     }
 }
 
+// (`benches` has such a main as well: programs differ here in what they name.)
 fn main(rt: HostRuntime) {
     answer_input(&rt, &mut [0u8; JUDGED], b"orders", b"plan", print_plan);
 }

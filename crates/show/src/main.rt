@@ -39,7 +39,7 @@ enum Given {
     End,
 }
 
-// Bytes written to standard output, under this program's name.
+// Bytes written to standard output, under this program's name. (`orders` says its own.)
 fn put(streams: &mut Streams, bytes: &[u8]) -> Result<(), Unwritten> {
     written(streams, b"show", bytes)
 }
@@ -208,6 +208,7 @@ fn put_question(streams: &mut Streams, text: &[u8]) {
     }
 }
 
+// (`benches` has such a main as well: programs differ here in what they name.)
 fn main(rt: HostRuntime) {
     answer_input(&rt, &mut [0u8; JUDGED], b"show", b"question", put_question);
 }
