@@ -12,7 +12,6 @@ use mir.Syntax.{w64}
 use mir.Val.{to_z, of_z}
 use Rattle.listing.specs.Limits.{most_ports, most_legs}
 use Rattle.words.specs.Told.{Told, Spot, accepted, refused, then}
-use Rattle.words.specs.Meaning.{outcome_told}
 use Rattle.words.specs.Signs.{signed_limit}
 use Rattle.words.proofs.WithSign.{stored}
 use Rattle.plan_rules.specs.Planned.{run_of, device}
@@ -25,7 +24,6 @@ use Rattle.text_entries.specs.Pieces.{EntriesAre}
 use Rattle.text_entries.proofs.Read.{given, given-long, given-front}
 use Rattle.asking.specs.Questions.{pattern_leg, of_pattern, entries_asked, pattern_asked}
 use Rattle.text_entries.specs.declared.Entries.{Entries}
-use Rattle.words.proofs.Told.{refused-on}
 use Rattle.asking.proofs.Asked.{from-pattern-ruled}
 
 -- ---- the line

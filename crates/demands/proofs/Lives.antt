@@ -1,7 +1,7 @@
 -- A life with any number of power cuts is an uncut campaign in what was kept: the bench comes out with the state that the kept calls leave, demand three holds
 -- of them, and after an error the seats come in turn and then the mark, from any fit state on in which no row of seats is under way (`lived`).
 -- Assumes nothing.
-use mathlib.Core.Path.{◌≡◌, refl, sym, ap, subst, ◌∙◌}
+use mathlib.Core.Path.{◌≡◌, refl, sym, ap, ◌∙◌}
 use mathlib.Core.Logic.{◌⊎◌, inl, inr}
 use mathlib.Core.Bool.{true}
 use mathlib.Core.List.{List, [], ◌∷◌}

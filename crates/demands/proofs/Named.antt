@@ -1,14 +1,13 @@
 -- Request 1: what an accepted call tells of a plan is right, the gaps stand in front of the slice, and it is refused just where it has to be (`patterns-named`).
 -- Assumes nothing.
-use mathlib.Core.Path.{◌≡◌, refl, sym, ap, subst, ◌∙◌}
-use mathlib.Core.List.{List, [], ◌∷◌, ◌++◌}
+use mathlib.Core.Path.{◌≡◌, sym, ap, subst, ◌∙◌}
+use mathlib.Core.List.{List}
 use Prim.Native.Nat.{ℕ, ◌*◌, ◌≤◌, ◌<◌}
 use native.Mathlib.Omega.{arith}
 use lib.ListN.{length, take, drop}
 use lib.Seq.{take_at, drop_at}
-use Rattle.listing.specs.Limits.{most_legs}
 use Rattle.listing.proofs.Numbers.{either, below?}
-use Rattle.words.specs.Told.{nowhere, accepted, refused, then}
+use Rattle.words.specs.Told.{nowhere, accepted, refused}
 use Rattle.words.proofs.Told.{not-both, accepted-once, then-accepted, then-passes}
 use Rattle.line_format.specs.Calls.{over}
 use Rattle.promise.specs.Derangements.{derangements}
@@ -20,7 +19,7 @@ use Rattle.plans.proofs.Plans.{accepted-fits}
 use Rattle.plan_arcs.proofs.Arcs.{fits-ruled}
 use Rattle.plan_named.specs.Calls.{Names, gaps_of, names_of, fitted, named_of, named_numbers}
 use Rattle.plan_named.proofs.Surveys.{no-room, room, text-read}
-use Rattle.demands.specs.Named.{Tells, gap_numbers, PatternsNamed}
+use Rattle.demands.specs.Named.{Tells, PatternsNamed}
 
 -- a plan that fits is told right
 plan-right : (p : Planned) → Fits device p → Right (derangements p.ports) p.legs (names_of p).ranks (gaps_of p)

@@ -8,7 +8,7 @@ use mathlib.Core.List.{List}
 use Prim.Native.Nat.{ℕ, ◌≤◌}
 use native.Mathlib.Omega.{arith}
 use lib.IntN.{pos}
-use lib.ListN.{length, replicate}
+use lib.ListN.{replicate}
 use Rattle.listing.specs.Pattern.{tabulate}
 use Rattle.listing.specs.Ends.{home}
 use Rattle.listing.specs.Limits.{most_ports, most_legs}
@@ -23,7 +23,6 @@ use Rattle.plans.specs.Calls.{read_plan_of}
 use Rattle.plan_rules.specs.Rules.{plan_ruled}
 use Rattle.campaign_state.specs.State.{moment_of}
 use Rattle.campaign_state.specs.Fitness.{places_fit}
-use Rattle.campaign_state.specs.declared.State.{State}
 use Rattle.campaign.specs.Calls.{answer_of, begun_of, first_state}
 use Rattle.campaign_reached.specs.Turns.{AcceptedPlan, campaign_of, begun, Called, left_after}
 use Rattle.campaign_reached.proofs.Kept.{answer-on}

@@ -1,7 +1,7 @@
 -- Reports that are sent twice: one that names its mark and closes it is refused with 12 ever after, whatever calls come between (`named-left` for the code,
 -- `named-words` for the calls for C, on any words). So it is never taken for another mark, which was not run.
 -- Assumes nothing.
-use mathlib.Core.Path.{◌≡◌, refl, sym, ap, ◌∙◌, subst}
+use mathlib.Core.Path.{◌≡◌, refl, sym, ap, ◌∙◌}
 use mathlib.Core.Bool.{true}
 use mathlib.Core.List.{List, map}
 use mathlib.Core.Option.{some}
@@ -9,10 +9,8 @@ use Prim.Native.Nat.{ℕ, ◌≤◌}
 use Rattle.listing.proofs.Numbers.{either, test}
 use Rattle.words.specs.Told.{accepted, refused, nowhere}
 use Rattle.words.proofs.Told.{not-both}
-use Rattle.promise.specs.Campaign as model
 use Rattle.promise.specs.Campaign.{Setting, Call, report_on, report_of, is_closing, taken, refusal, answer}
 use Rattle.promise.specs.Bench.{run, leaves}
-use Rattle.promise_onward.specs.Cuts.{left}
 use Rattle.promise_onward.proofs.Repeats.{refused-later}
 use Rattle.campaign_state.specs.State.{setting_of, moment_of}
 use Rattle.campaign_state.specs.Fitness.{fit}

@@ -1,6 +1,6 @@
 -- Where going on is refused: the panel to restore. In every fit state the pattern of the rank that `status` gives is taken by `resume` (`restored`).
 -- Assumes nothing.
-use mathlib.Core.Path.{◌≡◌, refl, sym, ap, ◌∙◌, subst}
+use mathlib.Core.Path.{◌≡◌, sym, ◌∙◌, subst}
 use mathlib.Core.Bool.{true}
 use mathlib.Core.List.{List}
 use Prim.Native.Nat.{ℕ, ◌≤◌}
@@ -10,11 +10,9 @@ use Rattle.listing.specs.Limits.{most_ports}
 use Rattle.listing.specs.Listing.{at}
 use Rattle.listing.specs.Pattern.{Permutation}
 use Rattle.words.specs.Told.{accepted}
-use Rattle.words.specs.Padded.{padded}
 use Rattle.words.proofs.Padded.{padded-length, padded-front, padded-beyond}
 use Rattle.pattern_check.proofs.Accepted.{Panel, panel-accepted}
-use Rattle.promise.specs.Campaign as model
-use Rattle.promise.specs.Campaign.{with_panel, Setting, wanted}
+use Rattle.promise.specs.Campaign.{with_panel, Setting}
 use Rattle.promise.specs.Derangements.{derangements}
 use Rattle.promise.specs.Fitness as promise
 use Rattle.promise.proofs.Steps.{listed_here}

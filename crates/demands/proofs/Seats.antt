@@ -1,12 +1,11 @@
 -- Request 4: after an error every jack is seated anew before the mark comes again, on any accepted plan and with any calls; what the state, the lines and the
 -- refusals gain by it (`reseat-after-error`).
 -- Assumes nothing.
-use mathlib.Core.Path.{◌≡◌, refl, sym, ap, subst, ◌∙◌}
-use mathlib.Core.Logic.{◌≢◌}
+use mathlib.Core.Path.{◌≡◌, sym, ap, subst, ◌∙◌}
 use mathlib.Core.Bool.{Bool, true, false, not, cond, true≢false}
 use mathlib.Core.List.{List, [], ◌∷◌, map}
 use mathlib.Core.Option.{Option, none, some}
-use Prim.Native.Nat.{ℕ, ◌≤◌, ◌<◌}
+use Prim.Native.Nat.{ℕ, ◌<◌}
 use native.Mathlib.Omega.{arith}
 use lib.ListN.{length}
 use lib.Dec.{ltb}
@@ -42,7 +41,7 @@ use Rattle.campaign_state.proofs.Fit.{moment-fit}
 use Rattle.campaign.specs.Calls.{answer_of, left_of, after}
 use Rattle.campaign.proofs.Asked.{unfit-answer, none-answer}
 use Rattle.plan_rules.specs.Rules.{legs_of}
-use Rattle.campaign_onward.specs.Calls.{going_on, goes_on, resume_of, resumed_of}
+use Rattle.campaign_onward.specs.Calls.{going_on, goes_on, resumed_of}
 use Rattle.campaign_reached.specs.Turns.{AcceptedPlan, campaign_of, begun, Called, call_of, turns_of}
 use Rattle.campaign_reached.proofs.Begun.{lawful, accepts}
 use Rattle.demands.specs.Seats.{ReseatAfterError}

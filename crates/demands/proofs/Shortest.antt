@@ -1,8 +1,8 @@
 -- Request 14: no sequence of swaps is shorter than the carriage, and whatever any calls are given before a leg's first mark is as short (`shortest-carriage`).
 -- Assumes nothing.
-use mathlib.Core.Path.{◌≡◌, refl, sym, subst, ◌∙◌}
+use mathlib.Core.Path.{refl, sym, subst, ◌∙◌}
 use mathlib.Core.List.{List, map}
-use Rattle.promise.specs.Bench.{acts, run}
+use Rattle.promise.specs.Bench.{acts}
 use Rattle.promise.specs.Campaign.{first}
 use Rattle.promise.specs.Derangements.{derangements}
 use Rattle.promise.specs.Onward.{first_past, past_of}

@@ -7,7 +7,6 @@ use Rattle.promise.specs.Campaign as model
 use Rattle.promise.specs.Campaign.{request, report_to, report_of, Answer, refusal}
 use Rattle.promise.specs.Bench.{Turn, Act, says}
 use Rattle.campaign_state.specs.State.{moment_of}
-use Rattle.campaign_state.specs.declared.State.{State}
 use Rattle.campaign_reached.specs.Turns.{Called, asks, tells, call_of}
 use Rattle.face_values.specs.Answers.{number_told}
 use Rattle.face_state.specs.States.{state_at}

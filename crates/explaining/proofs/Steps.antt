@@ -5,7 +5,7 @@ use mathlib.Core.Path.{◌≡◌, ap, ◌∙◌}
 use mathlib.Core.List.{List}
 use Prim.Native.Nat.{ℕ}
 use Rattle.listing.specs.Limits.{most_ports, largest64}
-use Rattle.words.specs.Told.{Spot, spot_number, earlier_number, Told, accepted, refused, then}
+use Rattle.words.specs.Told.{Spot, spot_number, earlier_number, accepted, refused, then}
 use Rattle.text_entries.specs.Entries.{one_line, entries_of, bad_entry}
 use Rattle.pattern_check.specs.Calls.{check_of}
 use Rattle.explaining.specs.Text.{why_text, refused_text, told_text, named_in, pattern_text, line_text, explained, explain_of}

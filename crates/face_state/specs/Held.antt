@@ -1,6 +1,6 @@
 -- What the code answers of words that are to be a state, and what its pieces ask of them.
 -- Assumes nothing.
-use Rattle.std.specs.Prelude.{ℕ, ◌+◌, ◌≤◌, ◌<◌, ◌≡◌, cond, List, length}
+use Rattle.std.specs.Prelude.{ℕ, ◌+◌, ◌≤◌, ◌<◌, ◌≡◌, List, length}
 use Rattle.std.proofs.Math.Option.{Option, none, some}
 use Rattle.listing.specs.Limits.{most_ports}
 use Rattle.campaign_state.specs.declared.State.{State}

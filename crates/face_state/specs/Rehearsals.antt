@@ -1,6 +1,6 @@
 -- A rehearsal in words, each field at its place, and the rehearsal that words are ('A rehearsal', include/jidrofex.h).
 -- Assumes nothing.
-use Rattle.std.specs.Prelude.{ℕ, ◌+◌, cond, List, [], ◌∷◌, ◌++◌, map, take, drop}
+use Rattle.std.specs.Prelude.{ℕ, ◌+◌, List, [], ◌∷◌, ◌++◌, map, take, drop}
 use Rattle.std.proofs.Math.Option
 use Rattle.std.proofs.Math.Option.{Option, none, some}
 use Rattle.printing.specs.Rehearsals.{rehearsal_of}

@@ -5,9 +5,9 @@
 use mathlib.Core.Path.{◌≡◌, refl, sym, ap, subst, ◌∙◌}
 use mathlib.Core.Bool.{Bool, true, false, cond}
 use mathlib.Core.Logic.{◌≢◌}
-use mathlib.Core.List.{List, [], ◌∷◌, ◌++◌, map}
+use mathlib.Core.List.{List, [], ◌++◌, map}
 use mathlib.Core.Option.{none, some}
-use Prim.Native.Nat.{ℕ, ◌+◌, ◌^◌, ◌≤◌, ◌<◌}
+use Prim.Native.Nat.{ℕ, ◌≤◌, ◌<◌}
 use native.Mathlib.Omega.{arith}
 use lib.Dec.{eqb, ltb}
 use lib.ListN.{length, drop, length-append}
@@ -17,7 +17,6 @@ use Rattle.listing.specs.Pattern.{Derangement}
 use Rattle.listing.specs.Listing.{at}
 use Rattle.listing.specs.Limits.{most_ports, largest64}
 use Rattle.listing.proofs.Limits.{count_most, count-20}
-use Rattle.listing.proofs.Numbers.{either, below?}
 use Rattle.listing.proofs.Ranks.{at-derangement}
 use Rattle.words.specs.Told.{Told, accepted, refused, nowhere, then, need}
 use Rattle.words.proofs.Told.{not-both, accepted-once, need-accepted, then-accepted}

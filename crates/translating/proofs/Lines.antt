@@ -1,14 +1,13 @@
 -- The lines that are translated: every rank and every number below the count, and every pattern, each in its line (`rank-line`, `number-line`, `pattern-line`);
 -- all three lines of one pattern print the same (`three_ways`). What a line that goes leaves and prints (`line-ports`, `line-short`).
 -- Assumes nothing.
-use mathlib.Core.Path.{◌≡◌, refl, sym, ap, ◌∙◌}
+use mathlib.Core.Path.{◌≡◌, refl, ap, ◌∙◌}
 use mathlib.Core.Bool.{false}
-use mathlib.Core.Logic.{◌≢◌}
-use mathlib.Core.List.{List, [], ◌∷◌, ◌++◌, map}
+use mathlib.Core.List.{List, ◌++◌, map}
 use mathlib.Core.Option.{some}
-use Prim.Native.Nat.{ℕ, suc, ◌+◌, ◌^◌, ◌≤◌, ◌<◌}
+use Prim.Native.Nat.{ℕ, ◌≤◌, ◌<◌}
 use native.Mathlib.Omega.{arith}
-use lib.ListN.{length, get_or, length-append}
+use lib.ListN.{length, length-append}
 use borrow.Author.Tests.{le-ltb, ne_eqb}
 use Rattle.listing.specs.Count.{count}
 use Rattle.listing.specs.Pattern.{Derangement}

@@ -16,8 +16,6 @@ use Rattle.listing.specs.Limits.{most_ports, largest64}
 use Rattle.listing.proofs.Numbers.{either, below?}
 use Rattle.listing_dictionary.specs.Dictionary.{in_dictionary}
 use Rattle.words.specs.Told.{Told, Spot, accepted, refused, nowhere, then, need, leaves}
-use Rattle.words.specs.Meaning.{outcome_told}
-use Rattle.words.proofs.Told.{not-both}
 use Rattle.text_numbers.specs.Decimal.{number_up_to}
 use Rattle.text_entries.specs.Entries.{entries_in, entry_byte, few_entries, entries_of}
 use Rattle.text_entries.specs.Pieces.{EntriesAre}

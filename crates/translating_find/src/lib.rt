@@ -54,11 +54,11 @@ fn by_entries(t: &[u8], p: &mut [u8]) -> Result<(), Refusal>
         Err(_) => Err(nowhere(Reason::Number)),
         Ok(entries) => {
             let Entries { len, bytes } = entries;
-            if len != p.len() {
-                return Err(nowhere(Reason::Number));
+            if len == p.len() {
+                put_text(&bytes[..len], 0, p);
+                return Ok(());
             }
-            put_text(&bytes[..len], 0, p);
-            Ok(())
+            Err(nowhere(Reason::Number))
         }
     }
 }

@@ -1,7 +1,7 @@
 -- `face_state::panel_in` stores one word more at each turn.
 -- Assumes nothing.
 use mathlib.Core.Path.{◌≡◌}
-use Prim.Native.Nat.{ℕ, ◌-◌, ◌≤◌}
+use Prim.Native.Nat.{ℕ, ◌≤◌}
 use lib.ListN.{length}
 use Rattle.listing.specs.Limits.{most_ports}
 use Rattle.face_state.specs.States.{panel_place, state_count}

@@ -1,7 +1,7 @@
 -- `face_state::plan_in` stores the start and the run of one leg more at each turn.
 -- Assumes nothing.
 use mathlib.Core.Path.{◌≡◌}
-use Prim.Native.Nat.{ℕ, ◌-◌, ◌≤◌}
+use Prim.Native.Nat.{ℕ, ◌≤◌}
 use lib.ListN.{length}
 use Rattle.listing.specs.Limits.{most_legs}
 use Rattle.face_state.specs.States.{starts_place, runs_place, state_count, run_in}

@@ -1,6 +1,6 @@
 -- `face_state::state_in`: words that fit are the state of their fields, any other words are none.
 -- Assumes nothing.
-use mathlib.Core.Path.{◌≡◌, refl, sym, ◌∙◌}
+use mathlib.Core.Path.{◌≡◌, sym, ◌∙◌}
 use mathlib.Core.Bool.{true}
 use Rattle.face_state.specs.States.{limits, within}
 use Rattle.face_state.proofs.StateWords.{words-fit, is_state, no-state}

@@ -1,7 +1,7 @@
 -- `face_state::state_out` stores one word more at each turn.
 -- Assumes nothing.
 use mathlib.Core.Path.{◌≡◌}
-use Prim.Native.Nat.{◌-◌, ◌≤◌}
+use Prim.Native.Nat.{◌≤◌}
 use lib.ListN.{length, take}
 use Rattle.face_state.specs.States.{state_count, state_words}
 use Rattle.face_state.proofs.state_out.Given as goal

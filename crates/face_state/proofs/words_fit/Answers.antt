@@ -1,7 +1,6 @@
 -- `face_state::words_fit`: the words passed so far are within their limits.
 -- Assumes nothing.
 use mathlib.Core.Path.{sym}
-use Prim.Native.Nat.{◌-◌}
 use native.Mathlib.Omega.{arith}
 use Rattle.face_state.specs.States.{limits}
 use Rattle.face_state.proofs.Within.{all-within, not-as-many, one-above}

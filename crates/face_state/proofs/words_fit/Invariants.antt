@@ -1,6 +1,6 @@
 -- `face_state::words_fit`: the words passed so far are within their limits.
 -- Assumes nothing.
-use Prim.Native.Nat.{ℕ, ◌-◌, ◌≤◌, ◌<◌}
+use Prim.Native.Nat.{ℕ, ◌≤◌, ◌<◌}
 use lib.ListN.{get_or}
 use Rattle.face_state.specs.States.{state_count, limits}
 use Rattle.face_state.proofs.words_fit.Given as goal

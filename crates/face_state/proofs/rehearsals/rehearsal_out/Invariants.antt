@@ -1,7 +1,7 @@
 -- `face_state::rehearsals::rehearsal_out` stores one word more at each turn.
 -- Assumes nothing.
 use mathlib.Core.Path.{◌≡◌}
-use Prim.Native.Nat.{◌-◌, ◌≤◌}
+use Prim.Native.Nat.{◌≤◌}
 use lib.ListN.{length, take}
 use Rattle.printing.specs.Rehearsals.{rehearsal_of}
 use Rattle.face_state.specs.Rehearsals.{rehearsal_count, rehearsal_words}

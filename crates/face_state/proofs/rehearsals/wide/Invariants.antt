@@ -1,7 +1,7 @@
 -- `face_state::rehearsals::wide` stores one word more at each turn.
 -- Assumes nothing.
 use mathlib.Core.Path.{◌≡◌}
-use Prim.Native.Nat.{◌-◌, ◌≤◌}
+use Prim.Native.Nat.{◌≤◌}
 use lib.ListN.{length, take}
 use Rattle.face_state.specs.States.{state_count}
 use Rattle.face_state.specs.Rehearsals.{widened}
