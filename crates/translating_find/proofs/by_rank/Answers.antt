@@ -9,24 +9,17 @@ use Rattle.text_numbers.specs.Answers.{read_is}
 use Rattle.translating_find.proofs.Found.{no_number, by-unrank}
 use Rattle.translating_find.proofs.by_rank.Goals as goal
 
-pub returns-in_err-r-clause-told : goal.returns-in_err-r-clause-told
-returns-in_err-r-clause-told c =
+pub returns-in_err-r : goal.returns-in_err-r
+returns-in_err-r c =
     let p = err_from_is_err_and c.from_residual.result c.from_residual.ensures.1 in
     let e : c.read_number.result ≡ None = grind (arith, c.ok_or.ensures.value, c.in_err-r.was) in
     let f : c.in_err-r.field-0.0 ≡ c.nowhere.result = grind (arith, c.ok_or.ensures.value, c.in_err-r.was) in
-    rw (p.1, p.2) (ap refusal_of (f ∙ c.nowhere.ensures) ∙ (no_number _ _ _ c.args.p.now (sym (ap read_is e) ∙ c.read_number.ensures)).0)
+    let found = no_number _ _ _ c.args.p.now (sym (ap read_is e) ∙ c.read_number.ensures) in
+    record { told = rw (p.1, p.2) (ap refusal_of (f ∙ c.nowhere.ensures) ∙ found.0); bytes = found.1 }
 
-pub returns-in_err-r-clause-bytes : goal.returns-in_err-r-clause-bytes
-returns-in_err-r-clause-bytes c =
-    let e : c.read_number.result ≡ None = grind (arith, c.ok_or.ensures.value, c.in_err-r.was) in
-    (no_number _ _ _ c.args.p.now (sym (ap read_is e) ∙ c.read_number.ensures)).1
-
-pub returns-clause-told : goal.returns-clause-told
-returns-clause-told c =
+pub returns : goal.returns
+returns c =
     let e : c.read_number.result ≡ Some c.in_ok-r.r = grind (arith, c.ok_or.ensures.value, c.in_ok-r.was) in
-    (by-unrank _ c.args.p.now c.requires.0 c.requires.1 _ (sym (ap read_is e) ∙ c.read_number.ensures) _ _ c.unrank.ensures.answer c.unrank.ensures.bytes).0
-
-pub returns-clause-bytes : goal.returns-clause-bytes
-returns-clause-bytes c =
-    let e : c.read_number.result ≡ Some c.in_ok-r.r = grind (arith, c.ok_or.ensures.value, c.in_ok-r.was) in
-    (by-unrank _ c.args.p.now c.requires.0 c.requires.1 _ (sym (ap read_is e) ∙ c.read_number.ensures) _ _ c.unrank.ensures.answer c.unrank.ensures.bytes).1
+    let read = sym (ap read_is e) ∙ c.read_number.ensures in
+    let found = by-unrank _ c.args.p.now c.requires.0 c.requires.1 _ read _ _ c.unrank.ensures.answer c.unrank.ensures.bytes in
+    record { told = found.0; bytes = found.1 }
