@@ -1,7 +1,7 @@
 -- `campaign_onward::is_fit`: a state that stands anywhere is fit.
 -- Assumes nothing.
 use mathlib.Core.Path.{◌≡◌, refl, sym, ap, ◌∙◌}
-use mathlib.Core.Bool.{true, not}
+use mathlib.Core.Bool.{true}
 use Rattle.campaign_state.specs.Standing.{stance_is, stand_of, unfit, at_mark, at_end, seat, clear, next}
 use Rattle.campaign_state.specs.Fitness.{fit}
 use Rattle.campaign_state.specs.declared.State.{State}
@@ -23,6 +23,6 @@ standing-fit s (Next o) e n = sym (stands s (next _) e).fits
 pub returns : goal.returns
 returns c =
     elim c.match-matches.branch [
-      | in-Unfit w ↦ ap not w.matches-is ∙ sym (stands c.args.s unfit (ap stance_is (sym w.in-Unfit.is) ∙ c.judge.ensures))
-      | in_default w ↦ ap not w.matches-is ∙ standing-fit c.args.s c.judge.result c.judge.ensures w.in_default.not-Unfit
+      | in-Unfit w ↦ rw w.matches-is (sym (stands c.args.s unfit (ap stance_is (sym w.in-Unfit.is) ∙ c.judge.ensures)))
+      | in_default w ↦ rw w.matches-is (standing-fit c.args.s c.judge.result c.judge.ensures w.in_default.not-Unfit)
     ]
