@@ -95,36 +95,10 @@ module _ (most : ℕ) where
   unfolding onward
   read-on t at o h = rw (add-one, drop-cons t at 0 h) (sym (judged-early (and_digit o (digit_in (get_or t at 0))) (drop (suc at) t)))
 
-  -- where what is read with it is none, the whole is none
-  pub read-none : (t : List ℕ) (at : ℕ) (o : Option ℕ) → at < length t → up_to most (and_digit o (digit_in (get_or t at 0))) ≡ none
-      → up_to most (onward o (drop at t)) ≡ none
-  read-none t at o h e =
-      read-on t at o h
-      ∙ ap (λ p. up_to most (onward p (drop (at + 1) t))) e
-      ∙ ap (up_to most) (onward-none (drop (at + 1) t))
-      ∙ none-up-to
-
   -- none is left
   pub read_all : (t : List ℕ) (at : ℕ) (o : Option ℕ) → length t ≤ at → up_to most (onward o (drop at t)) ≡ up_to most o
   unfolding onward
   read_all t at o h = rw (drop_of_length-le t h)
-
-  -- ---- the first byte
-
-  -- a text without bytes is no number
-  pub number-empty : (t : List ℕ) → length t ≡ 0 → number_up_to most t ≡ none
-  unfolding number_in
-  number-empty [] h = none-up-to
-  number-empty (b ∷ t) h = absurd (omega arith)
-
-  -- any other begins with its first byte, read as o
-  pub number-first : (t : List ℕ) (b : ℕ) (rest : List ℕ) (o : Option ℕ) → t ≡ b ∷ rest → o ≡ digit_in b → number_up_to most t ≡ up_to most (onward o rest)
-  unfolding number_in
-  number-first t b rest o e f = rw (e, f)
-
-  -- where it is no digit, the whole is no number
-  pub number-none : (t : List ℕ) (b : ℕ) (rest : List ℕ) → t ≡ b ∷ rest → none ≡ digit_in b → number_up_to most t ≡ none
-  number-none t b rest e f = number-first t b rest none e f ∙ ap (up_to most) (onward-none rest) ∙ none-up-to
 
 -- a digit is never too large
 pub digit-within : (most b : ℕ) → 9 ≤ most → up_to most (digit_in b) ≡ digit_in b
@@ -132,3 +106,15 @@ digit-within most b h =
     either (digit-cases b)
     (λ x. ap (up_to most) (of-digit x) ∙ within most x.digit (omega (arith, x.small)) ∙ sym (of-digit x))
     (λ z. ap (up_to most) z ∙ none-up-to most ∙ sym z)
+
+-- a text without bytes is no number
+pub number-empty : (t : List ℕ) → length t < 1 → number_in t ≡ none
+unfolding number_in
+number-empty [] h = refl
+number-empty (b ∷ t) h = absurd (omega arith)
+
+-- any other begins with its first byte
+pub number-first : (t : List ℕ) → 1 ≤ length t → number_in t ≡ onward (digit_in (get_or t 0 0)) (drop 1 t)
+unfolding number_in
+number-first [] h = absurd (omega arith)
+number-first (b ∷ t) h = refl

@@ -47,7 +47,7 @@ signed-minus most (b ∷ t) e = either (same? b minus) (λ s. rw (eq-eqb b minus
 -- with any other byte first, or none, the whole is the magnitude
 pub signed-plain : (most : ℕ) (t : List ℕ) → pointwise eqb (take 1 t) (minus ∷ []) ≡ false → signed_up_to most t ≡ plain (number_up_to most t)
 unfolding signed_up_to
-signed-plain most [] e = ap plain (sym (number-empty most [] refl))
+signed-plain most [] e = ap plain (sym (ap (up_to most) (number-empty [] (omega arith)) ∙ none-up-to most))
 signed-plain most (b ∷ t) e = either (same? b minus) (λ s. absurd (true≢false (rw (eq-eqb b minus s) at e))) (λ d. rw (ne_eqb b minus d))
 
 -- ---- both ways

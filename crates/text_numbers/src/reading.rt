@@ -31,16 +31,23 @@ fn and_digit(v: u64, d: u64) -> Option<u64>
     v.checked_mul(10)?.checked_add(d)
 }
 
+// What was found so far, and the byte b after it.
+fn and_byte(found: Option<u64>, b: u8) -> Option<u64>
+    ensures { read_is result ≡ up_to largest64 (and_digit (read_is found) (digit_in b)) }
+{
+    and_digit(found?, digit_in(b)?)
+}
+
 // The number of 64 bits that a text is.
 pub fn read_number(t: &[u8]) -> Option<u64>
     ensures { read_is result ≡ number_up_to largest64 t.now }
 {
     let (first, rest) = t.split_first()?;
-    let mut found = digit_in(*first)?;
+    let mut found = digit_in(*first);
     for b in rest {
-        found = and_digit(found, digit_in(*b)?)?;
+        found = and_byte(found, *b);
     }
-    Some(found)
+    found
 }
 
 // What was found, with no sign before it.
