@@ -1,5 +1,5 @@
 // Texts cut where a byte stands, and keys compared as byte strings: what the readers of plans and of order lines share.
-#![tactic(auto, using(crate::proofs::Keys::begins_is))]
+#![tactic(auto)]
 
 ghost use Rattle.std.specs.Prelude.{◌≡◌};
 ghost use Rattle.text_keys.specs.Parts.{first_of, begins};
