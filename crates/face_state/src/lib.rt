@@ -164,7 +164,7 @@ fn last_word(s: State, i: usize) -> u64
     }
 }
 
-// The word at a place of a state.
+// The word at a place of a state. (Each row of places is named before its place is read: else every word costs a copy of the whole state.)
 pub fn word_of(s: State, at: usize) -> u64
     requires { at < state_count }
     ensures { result ≡ word (state_words s) at }
@@ -177,13 +177,16 @@ pub fn word_of(s: State, at: usize) -> u64
         return plan.legs as u64;
     }
     if at < RUNS {
-        return plan.starts[at - STARTS];
+        let starts = plan.starts;
+        return starts[at - STARTS];
     }
     if at < PANEL {
-        return run_bits(plan.runs[at - RUNS]);
+        let runs = plan.runs;
+        return run_bits(runs[at - RUNS]);
     }
     if at < LEG {
-        return s.panel[at - PANEL] as u64;
+        let panel = s.panel;
+        return panel[at - PANEL] as u64;
     }
     last_word(s, at - LEG)
 }

@@ -29,13 +29,15 @@ impl RuledPlan {
         }
     }
 
-    // The leg with number i, counted from 0.
+    // The leg with number i, counted from 0. (Its rows of places are named before a place is read: else a leg costs a copy of the whole plan.)
     pub fn leg_at(self, i: u8) -> Leg
         requires { i < self.plan.legs }
         ensures { leg_is result ≡ leg_at (legs_of self.plan) i }
     {
         let at = i as usize;
-        leg_of(self.plan.starts[at], self.plan.runs[at])
+        let starts = self.plan.starts;
+        let runs = self.plan.runs;
+        leg_of(starts[at], runs[at])
     }
 
     // The marks of the first i legs.
