@@ -11,12 +11,12 @@ use Rattle.plan_rules.specs.Planned.{device}
 use Rattle.plan_rules.proofs.Rules.{few-legs, leg-in-place}
 use Rattle.plan_rules.proofs.ruled.RuledPlan.leg_at.Goals as goal
 
-pub bounds-self-at : goal.bounds-self-at
-bounds-self-at c =
+pub bounds-starts-at : goal.bounds-starts-at
+bounds-starts-at c =
     omega (arith, few-legs device c.args.self.plan (search rules) (search rules) c.args.self.ruled)
 
-pub bounds-self-at-2 : goal.bounds-self-at-2
-bounds-self-at-2 c =
+pub bounds-runs-at : goal.bounds-runs-at
+bounds-runs-at c =
     omega (arith, few-legs device c.args.self.plan (search rules) (search rules) c.args.self.ruled)
 
 pub returns : goal.returns
