@@ -105,8 +105,9 @@ edits_refused() {
             }
             return ""
         }
-        # the function that line n of a source file stands in
+        # the function that line n of a source file stands in, or that its attribute at line n is of
         function function_at(n,    k, found) {
+            while (lines[n] ~ /^ *#\[/) n++
             for (k = n; k >= 1; k--) if (match(lines[k], /(^|[ ("])fn [a-z_0-9]+/)) {
                 found = substr(lines[k], RSTART, RLENGTH)
                 sub(/.*fn /, "", found)
